@@ -1,0 +1,5 @@
+mod Pieces
+mod Proper
+mod Laws
+mod Push
+mod Parent
