@@ -3,3 +3,5 @@ mod Proper
 mod Laws
 mod Push
 mod Parent
+mod Within
+mod Order

@@ -2,3 +2,4 @@ pub mod Faults
 pub mod Labels
 pub mod Layout
 pub mod Names
+pub mod Order

@@ -1,9 +1,9 @@
 // A name's labels: how many, which, and one more or one less.
 ghost use mathlib.Core.Path.{_≡_};
 ghost use mathlib.Core.List.{[], _∷_, _++_};
-ghost use Prim.Native.Nat.{_≤_};
+ghost use Prim.Native.Nat.{_≤_, _<_};
 ghost use denote.Ref.{now as at};
-ghost use lib.ListN.{length};
+ghost use lib.ListN.{length, getD};
 ghost use Rattle.std.specs.Finite.{nth};
 ghost use Rattle.std.specs.Options.{mapped};
 ghost use Rattle.names.specs.Labels.{labelByte, labelBytes, properLabel};
@@ -68,14 +68,23 @@ impl Name {
         }
     }
 
+    // The label at a depth that is there.
+    pub(super) fn label_at(&self, depth: usize) -> &[u8]
+        requires { ⌜ depth < length (labels (now self)) ⌝ }
+        ensures { λ r. ⌜ now r ≡ getD (labels (now (self .entry))) depth [] ⌝ }
+    {
+        &self.bytes[self.start(depth)..self.start(depth + 1)]
+    }
+
     // The label at a depth, counted from the root down.
     pub fn label(&self, depth: usize) -> Option<&[u8]>
         ensures { λ r. ⌜ mapped at r ≡ nth (labels (now (self .entry))) depth ⌝ }
     {
-        if depth >= self.count as usize {
-            return None;
+        if depth < self.label_count() {
+            Some(self.label_at(depth))
+        } else {
+            None
         }
-        Some(&self.bytes[self.start(depth)..self.start(depth + 1)])
     }
 
     // One label more, below all others; a refusal leaves the name as it was.

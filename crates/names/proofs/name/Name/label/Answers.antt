@@ -1,24 +1,13 @@
-use mathlib.Core.Path.{sym, _∙_, ap}
+use mathlib.Core.Path.{ap, sym, _∙_}
+use mathlib.Core.List.{[]}
 use native.Mathlib.Omega.{arith}
-use borrow.Author.Needs.{needs}
-use Rattle.std.specs.Holes.{between}
 use Rattle.std.specs.declared.option.Option.the-variants.{Some}
-use Rattle.names.proofs.Laws.{label-some, label-none, start-room, start-below}
+use Rattle.std.proofs.shelf.Maps.{nth-getD, nth-past}
+use Rattle.names.specs.Names.{labels}
 use Rattle.names.proofs.name.Name.label.Needs as need
 
-pub returns-then-depth-self : need.returns-then-depth-self
-returns-then-depth-self c = sym (label-none (c .args .self .now) (c .args .depth) (omega arith))
+pub returns-then-depth-label-count : need.returns-then-depth-label-count
+returns-then-depth-label-count c = ap Some (c .label-at .ensures) ∙ sym (nth-getD (labels (c .args .self .now)) (c .args .depth) [] (omega arith))
 
-pub part-result-count : need.part-result-count
-part-result-count c = let h = start-below (c .args .self .now) (c .args .depth) (omega arith) in omega arith
-
-pub part-result-start : need.part-result-start
-part-result-start c =
-    let h = start-below (c .args .self .now) (c .args .depth) (omega arith) in
-    let k = start-room (c .args .self .now) (c .args .depth) (omega arith) in
-    search needs
-
-pub returns : need.returns
-returns c =
-    ap Some (λ i. between (c .start .ensures .value i) (c .start-2 .ensures .value i) (c .args .self .now .bytes))
-    ∙ sym (label-some (c .args .self .now) (c .args .depth) (omega arith))
+pub returns-else-depth-label-count : need.returns-else-depth-label-count
+returns-else-depth-label-count c = sym (nth-past (labels (c .args .self .now)) (c .args .depth) (omega arith))
