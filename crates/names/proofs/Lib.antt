@@ -5,3 +5,6 @@ mod Push
 mod Parent
 mod Within
 mod Order
+mod Pieced
+mod Extend
+mod Readings

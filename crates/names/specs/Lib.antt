@@ -3,3 +3,4 @@ pub mod Labels
 pub mod Layout
 pub mod Names
 pub mod Order
+pub mod Reading

@@ -8,6 +8,7 @@ ghost use Rattle.names.specs.Layout.{pieces, rising};
 
 mod labels;
 mod order;
+mod text;
 
 // The most labels of a name, the most bytes of a label, and the most bytes of a name as it is written.
 pub const MAX_LABELS: usize = 16;
