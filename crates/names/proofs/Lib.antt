@@ -8,3 +8,5 @@ mod Order
 mod Pieced
 mod Extend
 mod Readings
+mod Shown
+mod Writing

@@ -6,6 +6,7 @@ ghost use lib.ListN.{length, take};
 ghost use Rattle.names.specs.Labels.{proper};
 ghost use Rattle.names.specs.Layout.{pieces, rising};
 
+mod display;
 mod labels;
 mod order;
 mod text;
