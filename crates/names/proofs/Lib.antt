@@ -10,3 +10,4 @@ mod Extend
 mod Readings
 mod Shown
 mod Writing
+mod RoundTrip

@@ -111,3 +111,8 @@ impl Name {
         Name::read_below(&Name::root(), text)
     }
 }
+
+pub fn written_laws()
+    ensures { λ _. ⌜ WrittenLaws ⌝ }
+{
+}
