@@ -11,3 +11,4 @@ mod Readings
 mod Shown
 mod Writing
 mod RoundTrip
+mod Cutting

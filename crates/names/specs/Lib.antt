@@ -4,3 +4,4 @@ pub mod Layout
 pub mod Names
 pub mod Order
 pub mod Reading
+pub mod Wire

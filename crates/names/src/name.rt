@@ -10,6 +10,7 @@ mod display;
 mod labels;
 mod order;
 mod text;
+mod wire;
 
 // The most labels of a name, the most bytes of a label, and the most bytes of a name as it is written.
 pub const MAX_LABELS: usize = 16;
