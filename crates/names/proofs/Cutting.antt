@@ -86,9 +86,11 @@ one-cut n bs name next good r k rest l after c pos h e a =
   where
     less : k ≡ suc (k - 1)
     less = omega arith
+
     good-so : (s : Bool) → name ≡ c .cut → s ≡ proper (name ++ l ∷ []) → next ≡ cond s (name ++ l ∷ []) name → When s (next ≡ c .cut ++ l ∷ []) (proper (c .cut ++ l ∷ []) ≡ false)
     good-so true m f b = b ∙ ap (λ x. x ++ l ∷ []) m
     good-so false m f b = ap (λ x. proper (x ++ l ∷ [])) (sym m) ∙ sym f
+
     go : (g s : Bool) → When g (name ≡ c .cut) (proper (c .cut) ≡ false) → s ≡ (g && proper (name ++ l ∷ [])) → next ≡ cond s (name ++ l ∷ []) name → When s (next ≡ c .cut ++ l ∷ []) (proper (c .cut ++ l ∷ []) ≡ false)
     go true s m f b = good-so s m f b
     go false true m f b = absurd (true≢false f)
@@ -137,7 +139,7 @@ labels-back (l ∷ ls) rest =
     let n = length-append l (wireLabels ls ++ rest) in
     let m = ap length e in
     cut-one (length ls) (length l ∷ bs) l (wireLabels ls ++ rest)
-      (cut-some (length l) bs (omega arith) ∙ (λ i. Some (take (length l) (e i), drop (length l) (e i))) ∙ (λ i. Some (take-at l (wireLabels ls ++ rest) (length l) refl i, drop-at l (wireLabels ls ++ rest) (length l) refl i)))
+    (cut-some (length l) bs (omega arith) ∙ (λ i. Some (take (length l) (e i), drop (length l) (e i))) ∙ (λ i. Some (take-at l (wireLabels ls ++ rest) (length l) refl i, drop-at l (wireLabels ls ++ rest) (length l) refl i)))
     ∙ ap (behind (l ∷ [])) (labels-back ls rest)
 
 read-wire : (ls : List (List ℕ)) (rest : List ℕ) → proper ls ≡ true → readWire (wire ls ++ rest) ≡ Ok (ls, rest)
@@ -170,9 +172,10 @@ cut-back (suc n) (len ∷ bs) ls rest h = go (leb len (length bs)) refl (cutLabe
         let b : p .1 ≡ rest = ap (λ (x : List (List ℕ) × List ℕ). x .1) m in
         let g = f (p .0) (p .1) refl in
         let fits = leb-true len (length bs) e in
-        let size : length (take len bs) ≡ len = length-take-le len bs fits in
-        (ap length (sym a) ∙ ap suc (g .0),
-         (λ i. wireLabels (sym a i) ++ sym b i) ∙ (λ i. size i ∷ append-assoc (take len bs) (wireLabels (p .0)) (p .1) i) ∙ ap (λ x. len ∷ (take len bs ++ x)) (g .1) ∙ ap (λ x. len ∷ x) (take-append-drop len bs))
+        let size : length (take len bs) ≡ len = length-take-le len bs fits in (
+          ap length (sym a) ∙ ap suc (g .0),
+          (λ i. wireLabels (sym a i) ++ sym b i) ∙ (λ i. size i ∷ append-assoc (take len bs) (wireLabels (p .0)) (p .1) i) ∙ ap (λ x. len ∷ (take len bs ++ x)) (g .1) ∙ ap (λ x. len ∷ x) (take-append-drop len bs),
+        )
 
 wire-read : (bs : List ℕ) (ls : List (List ℕ)) (rest : List ℕ) → readWire bs ≡ Ok (ls, rest) → wire ls ++ rest ≡ bs
 unfolding readWire wire
@@ -182,6 +185,7 @@ wire-read (n ∷ bs) ls rest h = go (cutLabels n bs) refl
     so : (p : List (List ℕ) × List ℕ) (b : Bool) → proper (p .0) ≡ b → cond (proper (p .0)) (Ok p) (Err BadName) ≡ Ok (ls, rest) → p ≡ (ls, rest)
     so p true e f = let q = sym (cond-true (proper (p .0)) (Ok p) (Err BadName) e) ∙ f in cc
     so p false e f = let q = sym (cond-false (proper (p .0)) (Ok p) (Err BadName) e) ∙ f in let z : _≡_ {A = ℕ} 0 1 = cc in absurd (omega arith)
+
     go : (o : Option (List (List ℕ) × List ℕ)) → cutLabels n bs ≡ o → wire ls ++ rest ≡ n ∷ bs
     go None e = let q : _≡_ {A = Result (List (List ℕ) × List ℕ) Fault} (Err Malformed) (Ok (ls, rest)) = ap judged (sym e) ∙ h in let z : _≡_ {A = ℕ} 0 1 = cc in absurd (omega arith)
     go (Some p) e =

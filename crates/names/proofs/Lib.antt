@@ -1,14 +1,16 @@
 mod Pieces
-mod Proper
-mod Laws
+pub mod Proper
+pub mod Laws
 mod Push
 mod Parent
-mod Within
-mod Order
+pub mod Within
+pub mod Order
 mod Pieced
-mod Extend
-mod Readings
+pub mod Extend
+pub mod Readings
 mod Shown
 mod Writing
-mod RoundTrip
-mod Cutting
+pub mod RoundTrip
+pub mod Cutting
+mod Appending
+mod Faults

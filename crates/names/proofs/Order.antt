@@ -124,17 +124,17 @@ order-between (l ∷ q) (m ∷ ms) (p ∷ ps) h k w =
     let g : l ≡ m = labels-equal l m f in
     let b : labelOrder m l ≡ Equal = lexical unsigned .flip m l ∙ ap reversed f in
     and-from (sameLabel l m) (within q ms) (subst (λ x. sameLabel l x ≡ true) (e ∙ g) (a .0))
-      (order-between q ms ps (ap (λ r. isLe (thenBy r (order q ms))) (sym f) ∙ h) (ap (λ r. isLe (thenBy r (order ms ps))) (sym b) ∙ k′) (a .1))
+    (order-between q ms ps (ap (λ r. isLe (thenBy r (order q ms))) (sym f) ∙ h) (ap (λ r. isLe (thenBy r (order ms ps))) (sym b) ∙ k′) (a .1))
 
 pub order-laws : OrderLaws
 order-laws = record {
-    total = order-total;
-    transitive = order-transitive;
-    antisymmetric = order-antisymmetric;
-    equal = λ a b. (order-equal a b, λ e. subst (λ c. order a c ≡ Equal) e (order-itself a));
-    above-first = order-above-first;
-    between = order-between;
-  }
+  total = order-total;
+  transitive = order-transitive;
+  antisymmetric = order-antisymmetric;
+  equal = λ a b. (order-equal a b, λ e. subst (λ c. order a c ≡ Equal) e (order-itself a));
+  above-first = order-above-first;
+  between = order-between;
+}
 
 -- ---- as it is found out
 

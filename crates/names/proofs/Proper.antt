@@ -80,8 +80,8 @@ pub proper-from : (ls : List (List ℕ)) → Limits ls → proper ls ≡ true
 unfolding proper
 proper-from ls h =
     and-from (leb (length ls) 16 && properLabels ls) (leb (length (written ls)) 255)
-      (and-from (leb (length ls) 16) (properLabels ls) (le-leb (length ls) 16 (h .few)) (h .labels))
-      (written-limit ls ∙ le-leb (weight ls) 256 (h .short))
+    (and-from (leb (length ls) 16) (properLabels ls) (le-leb (length ls) 16 (h .few)) (h .labels))
+    (written-limit ls ∙ le-leb (weight ls) 256 (h .short))
 
 pub labels-append : (ls ms : List (List ℕ)) → properLabels (ls ++ ms) ≡ true → (properLabels ls ≡ true) × (properLabels ms ≡ true)
 labels-append [] ms h = (refl, h)

@@ -130,15 +130,15 @@ pub pushed : (n : Name) (l : List ℕ) (s : ℕ) (ys : List ℕ) → properLabel
 pushed n l s ys good st few in-ends short room is =
     let m : length ys ≡ s + length l - s = ap length is ∙ omega arith in
     let p : Put n l s (written-to n l s ys) =
-        record {
-          start = st;
-          few = in-ends;
-          good = label-length l good .0;
-          room = room;
-          whole = search (needs, places);
-          kept = take-putMid-below s (s + length l - s) (n .bytes) ys s (omega arith) (omega arith);
-          put = between-putMid s (s + length l - s) (n .bytes) ys (s + length l) (omega arith) m ∙ is;
-        } in
+    record {
+      start = st;
+      few = in-ends;
+      good = label-length l good .0;
+      room = room;
+      whole = search (needs, places);
+      kept = take-putMid-below s (s + length l - s) (n .bytes) ys s (omega arith) (omega arith);
+      put = between-putMid s (s + length l - s) (n .bytes) ys (s + length l) (omega arith) m ∙ is;
+    } in
     record {
       counted = push-counted n l s (written-to n l s ys) p;
       laid = push-laid n l s (written-to n l s ys) p;

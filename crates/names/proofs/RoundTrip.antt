@@ -107,7 +107,7 @@ ends-with-label : (xs l : List ℕ) → dotless l ≡ true → 0 < length l → 
 ends-with-label xs l h n =
     let a = length-append xs l in
     let at : getD (xs ++ l) (length (xs ++ l) - 1) 0 ≡ getD l (length l - 1) 0 =
-        getD-append-right xs l (length xs) (length (xs ++ l) - 1) 0 refl (omega arith) ∙ ap (λ k. getD l k 0) (omega arith) in
+    getD-append-right xs l (length xs) (length (xs ++ l) - 1) 0 refl (omega arith) ∙ ap (λ k. getD l k 0) (omega arith) in
     ne-eqb (getD (xs ++ l) (length (xs ++ l) - 1) 0) 46 (λ e. dotless-at l (length l - 1) h (omega arith) (sym at ∙ e))
 
 pub written-last : (ls : List (List ℕ)) → properLabels ls ≡ true → 0 < length ls → lastDot (written ls) ≡ false
@@ -222,11 +222,11 @@ written-short apex t ls h = go (isDot t) (lastDot t) refl refl
 
 pub written-laws : WrittenLaws
 written-laws = record {
-    read-written = read-written;
-    written-read = written-read;
-    whole-written = whole-written;
-    written-whole = written-whole;
-    dotted-written = dotted-written;
-    short-written = short-written;
-    written-short = written-short;
-  }
+  read-written = read-written;
+  written-read = written-read;
+  whole-written = whole-written;
+  written-whole = written-whole;
+  dotted-written = dotted-written;
+  short-written = short-written;
+  written-short = written-short;
+}

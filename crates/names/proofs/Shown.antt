@@ -54,8 +54,10 @@ written-lowest (l ∷ ls) h = ap dotted (turned (l ∷ ls) (length ls) refl) ∙
     turned : (ms : List (List ℕ)) (n : ℕ) → length ms ≡ suc n → reverse ms ≡ getD ms n [] ∷ reverse (take n ms)
     turned ms n e =
         ap reverse (sym (take-all (n + 1) ms (omega arith)) ∙ take-more ms n [] (omega arith)) ∙ reverse-append (take n ms) (getD ms n [] ∷ [])
+
     less-one : length ls ≡ length (l ∷ ls) - 1
     less-one = omega arith
+
     by-count : getD (l ∷ ls) (length ls) [] ++ trail (reverse (take (length ls) (l ∷ ls))) ≡ getD (l ∷ ls) (length (l ∷ ls) - 1) [] ++ trail (reverse (take (length (l ∷ ls) - 1) (l ∷ ls)))
     by-count = ap (λ n. getD (l ∷ ls) n [] ++ trail (reverse (take n (l ∷ ls)))) less-one
 

@@ -25,10 +25,11 @@ module _ {W : Type 0} (took : W → List ℕ → W → Type 0) (ls : List (List 
       let b = label (a .plain) in
       let e : i ≡ i - 1 + 1 = omega arith in
       let more : trail (reverse (take i ls)) ≡ 46 ∷ (l ++ trail (reverse (take (i - 1) ls))) =
-          ap (λ j. trail (reverse (take j ls))) e ∙ trail-more ls (i - 1) (omega arith) ∙ ap (λ x. 46 ∷ (x ++ trail (reverse (take (i - 1) ls)))) (sym at) in
-      (d .0 ++ (46 ∷ l),
-       put-more took f (d .0) g (46 ∷ l) k (d .1) (put-more took g (46 ∷ []) h l k a b),
-       append-assoc (d .0) (46 ∷ l) (trail (reverse (take (i - 1) ls))) ∙ ap (λ x. d .0 ++ x) (sym more) ∙ d .2)
+      ap (λ j. trail (reverse (take j ls))) e ∙ trail-more ls (i - 1) (omega arith) ∙ ap (λ x. 46 ∷ (x ++ trail (reverse (take (i - 1) ls)))) (sym at) in (
+        d .0 ++ (46 ∷ l),
+        put-more took f (d .0) g (46 ∷ l) k (d .1) (put-more took g (46 ∷ []) h l k a b),
+        append-assoc (d .0) (46 ∷ l) (trail (reverse (take (i - 1) ls))) ∙ ap (λ x. d .0 ++ x) (sym more) ∙ d .2,
+      )
 
   pub all-up : (f g h : Formatter W) (l : List ℕ) (n i : ℕ) → length ls ≡ n + 1 → i ≡ 0 → l ≡ getD ls n [] → (Plain f → Put took f l g) → Upto g n h i → Plain f → Put took f (written ls) h
   all-up f g h l n i count none lowest first done p =
@@ -37,5 +38,5 @@ module _ {W : Type 0} (took : W → List ℕ → W → Type 0) (ls : List (List 
       let m : length ls - 1 ≡ n = omega arith in
       let rest : d .0 ≡ trail (reverse (take n ls)) = sym (append-nil (d .0)) ∙ ap (λ j. d .0 ++ trail (reverse (take j ls))) (sym none) ∙ d .2 in
       put-is took f (l ++ d .0) (written ls) h
-        ((λ j. lowest j ++ rest j) ∙ sym (written-lowest ls (omega arith) ∙ ap (λ k. getD ls k [] ++ trail (reverse (take k ls))) m))
-        (put-more took f l g (d .0) h a (d .1))
+      ((λ j. lowest j ++ rest j) ∙ sym (written-lowest ls (omega arith) ∙ ap (λ k. getD ls k [] ++ trail (reverse (take k ls))) m))
+      (put-more took f l g (d .0) h a (d .1))

@@ -1,5 +1,6 @@
 -- The number of each fault, as packets, scripts and output give it.
-use Prim.Native.Nat.{ℕ}
+use mathlib.Core.Path.{_≡_}
+use Prim.Native.Nat.{ℕ, _≤_}
 use Rattle.names.specs.declared.fault.Fault.{Fault}
 use Rattle.names.specs.declared.fault.Fault.the-variants.{Malformed, BadName, BadData, Misplaced, Conflict, StaleSerial, TooMuch, NotPending, WrongApex, BadTransfer, CacheFull, NoMemory}
 use Rattle.std.specs.declared.option.Option.{Option}
@@ -19,3 +20,8 @@ numberOf WrongApex = Some 9
 numberOf BadTransfer = Some 10
 numberOf CacheFull = Some 11
 numberOf NoMemory = None
+
+pub record FaultLaws : Type 0 where
+  -- a number names one fault
+  pub distinct : (f g : Fault) → numberOf f ≡ numberOf g → f ≡ g
+  pub bounds : (f : Fault) (n : ℕ) → numberOf f ≡ Some n → (1 ≤ n) × (n ≤ 11)

@@ -22,6 +22,11 @@ wireLabels (l ∷ ls) = length l ∷ (l ++ wireLabels ls)
 unfoldable pub wire : List (List ℕ) → List ℕ
 wire ls = length ls ∷ wireLabels ls
 
+-- a call that writes behind what is there: all that is due, or, where memory ends, a part, and what was there is kept
+abbrev pub Appends : {A E : Type 0} → List ℕ → List ℕ → Result A E → List ℕ → Type 0
+Appends before due (Ok a) after = after ≡ before ++ due
+Appends before due (Err e) after = (part : List ℕ) × (after ≡ before ++ part)
+
 -- the label at the front and what follows it, unless the bytes are cut short
 abbrev pub cutLabel : List ℕ → Option (List ℕ × List ℕ)
 cutLabel [] = None

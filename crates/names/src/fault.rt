@@ -1,6 +1,9 @@
 // Why an input is refused: one list for every layer of the service.
 ghost use mathlib.Core.Path.{_≡_};
-ghost use Rattle.names.specs.Faults.{numberOf};
+ghost use Rattle.names.specs.declared.fault.Fault.the-variants.{NoMemory};
+ghost use Rattle.names.specs.Faults.{numberOf, FaultLaws};
+use std::alloc::AllocError;
+use std::alloc::Refused;
 
 #[derive(Clone, Copy, PartialEq, Eq, Debug)]
 pub enum Fault {
@@ -51,3 +54,23 @@ impl Fault {
         }
     }
 }
+
+pub impl From<AllocError> for Fault as FaultFromAllocError {
+    ghost converts = { λ _ r. r ≡ NoMemory };
+
+    fn from(_e: AllocError) -> Fault {
+        Fault::NoMemory
+    }
+}
+
+pub impl<T: Drop> From<Refused<T>> for Fault as FaultFromRefused {
+    ghost converts = { λ _ r. r ≡ NoMemory };
+
+    fn from(_e: Refused<T>) -> Fault {
+        Fault::NoMemory
+    }
+}
+
+pub fn fault_laws()
+    ensures { λ _. ⌜ FaultLaws ⌝ }
+{}

@@ -6,15 +6,17 @@ ghost use lib.ListN.{length, take};
 ghost use Rattle.names.specs.Labels.{proper};
 ghost use Rattle.names.specs.Layout.{pieces, rising};
 
-mod display;
-mod labels;
-mod order;
-mod text;
-mod wire;
+pub mod display;
+pub mod labels;
+pub mod order;
+pub mod text;
+pub mod wire;
 
 // The most labels of a name, the most bytes of a label, and the most bytes of a name as it is written.
 pub const MAX_LABELS: usize = 16;
+
 pub const MAX_LABEL: usize = 63;
+
 pub const MAX_WRITTEN: usize = 255;
 
 // Every value keeps the limits: at most 16 labels, each of 1 to 63 bytes that are small letters, digits or hyphens,

@@ -71,10 +71,8 @@ pub impl Ord for Name as NameOrd {
 
 pub fn within_laws()
     ensures { λ _. ⌜ WithinLaws ⌝ }
-{
-}
+{}
 
 pub fn order_laws()
     ensures { λ _. ⌜ OrderLaws ⌝ }
-{
-}
+{}

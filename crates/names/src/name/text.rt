@@ -114,5 +114,4 @@ impl Name {
 
 pub fn written_laws()
     ensures { λ _. ⌜ WrittenLaws ⌝ }
-{
-}
+{}

@@ -2,13 +2,15 @@
 ghost use mathlib.Core.Path.{_≡_};
 ghost use mathlib.Core.Bool.{_&&_, cond};
 ghost use mathlib.Core.List.{[], _∷_, _++_};
-ghost use lib.ListN.{length, take};
-ghost use Rattle.std.specs.Of.Vec.{vec-items, vec-len};
+ghost use Prim.Native.Nat.{_<_};
+ghost use lib.ListN.{length};
+ghost use Rattle.std.specs.Of.Vec.{vec-items};
 ghost use Rattle.std.specs.Options.{mapped};
 ghost use Rattle.std.specs.Results.{Cases};
+ghost use Rattle.names.specs.declared.fault.Fault.the-variants.{NoMemory};
 ghost use Rattle.names.specs.Labels.{proper};
 ghost use Rattle.names.specs.Names.{labels, given};
-ghost use Rattle.names.specs.Wire.{wire, cutLabel, readWire, nameRead, restRead, WireLaws};
+ghost use Rattle.names.specs.Wire.{wire, cutLabel, Appends, readWire, nameRead, restRead, WireLaws};
 use super::Name;
 use crate::Fault;
 use std::alloc::AllocError;
@@ -79,3 +81,40 @@ impl<'a> Reader<'a> {
         Ok(name)
     }
 }
+
+// One label behind its length.
+fn append_label(label: &[u8], out: &mut Vec<u8>) -> Result<(), AllocError>
+    requires { ⌜ length (now label) < 256 ⌝ }
+    ensures { λ r. ⌜ Appends (vec-items (now (out .entry))) (length (now (label .entry)) ∷ now (label .entry)) r (vec-items (now (out .exit))) ⌝ }
+{
+    out.push(label.len() as u8)?;
+    out.extend_from_slice(label)
+}
+
+impl Name {
+    fn append_wire(&self, out: &mut Vec<u8>) -> Result<(), AllocError>
+        ensures { λ r. ⌜ Appends (vec-items (now (out .entry))) (wire (labels (now (self .entry)))) r (vec-items (now (out .exit))) ⌝ }
+    {
+        out.push(self.count)?;
+        for depth in 0..self.label_count() {
+            append_label(self.label_at(depth), out)?;
+        }
+        Ok(())
+    }
+
+    // Writes the wire form behind what is there, all of it or nothing.
+    pub fn write_wire(&self, out: &mut Vec<u8>) -> Result<(), Fault>
+        ensures { λ r. ⌜ Cases r (λ _. vec-items (now (out .exit)) ≡ vec-items (now (out .entry)) ++ wire (labels (now (self .entry)))) (λ f. (f ≡ NoMemory) × (vec-items (now (out .exit)) ≡ vec-items (now (out .entry)))) ⌝ }
+    {
+        let before = out.len();
+        if self.append_wire(out).is_err() {
+            out.truncate(before);
+            return Err(Fault::NoMemory);
+        }
+        Ok(())
+    }
+}
+
+pub fn wire_laws()
+    ensures { λ _. ⌜ WireLaws ⌝ }
+{}

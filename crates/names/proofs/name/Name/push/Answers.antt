@@ -10,11 +10,13 @@ use Rattle.names.proofs.name.Name.push.Needs as need
 use Rattle.names.proofs.name.Name.push.Needs.{then-count-ge-MAX-LABELS·by·then-count-ge-MAX-LABELS, then-count-ge-MAX-LABELS·by·else-count-ge-MAX-LABELS·then-not-is-label}
 
 pub returns-then-count-ge-MAX-LABELS : need.returns-then-count-ge-MAX-LABELS
-returns-then-count-ge-MAX-LABELS c =
-    (elim (c .then-count-ge-MAX-LABELS .came) [
-        then-count-ge-MAX-LABELS·by·then-count-ge-MAX-LABELS w ↦ full (c .args .self .now) (c .args .label .now) (w .if-count-ge-MAX-LABELS .taken)
-      | then-count-ge-MAX-LABELS·by·else-count-ge-MAX-LABELS·then-not-is-label w ↦ ill-made (c .args .self .now) (c .args .label .now) (sym (w .if-not-is-label .ensures tt))
-      ], refl)
+returns-then-count-ge-MAX-LABELS c = (
+  elim (c .then-count-ge-MAX-LABELS .came) [
+    | then-count-ge-MAX-LABELS·by·then-count-ge-MAX-LABELS w ↦ full (c .args .self .now) (c .args .label .now) (w .if-count-ge-MAX-LABELS .taken)
+    | then-count-ge-MAX-LABELS·by·else-count-ge-MAX-LABELS·then-not-is-label w ↦ ill-made (c .args .self .now) (c .args .label .now) (sym (w .if-not-is-label .ensures tt))
+  ],
+  refl,
+)
 
 pub add-end : need.add-end
 add-end c = let l = label-length (c .args .label .now) (sym (c .if-not-is-label .ensures tt)) in search needs

@@ -8,12 +8,12 @@ use Rattle.names.proofs.name.order.NameOrd.cmp.Needs as need
 pub returns-then-is-ne : need.returns-then-is-ne
 returns-then-is-ne c =
     order-decided (labels (c .args .self .now)) (labels (c .args .other .now)) (c .loop-depth .depth) (c .compare-labels-found .result) (omega arith) (omega arith)
-      (c .compare-labels-found .ensures ∙ (λ i. labelOrder (c .label-at .ensures i) (c .label-at-in-loop-depth .ensures i))) (sym (c .if-is-ne .ensures tt)) ∙ c .loop-depth .inv
+    (c .compare-labels-found .ensures ∙ (λ i. labelOrder (c .label-at .ensures i) (c .label-at-in-loop-depth .ensures i))) (sym (c .if-is-ne .ensures tt)) ∙ c .loop-depth .inv
 
 pub loop-depth-again : need.loop-depth-again
 loop-depth-again c =
     order-undecided (labels (c .args .self .now)) (labels (c .args .other .now)) (c .loop-depth .depth) (c .compare-labels-found .result) (omega arith) (omega arith)
-      (c .compare-labels-found .ensures ∙ (λ i. labelOrder (c .label-at .ensures i) (c .label-at-in-loop-depth .ensures i))) (sym (c .if-is-ne .ensures tt)) ∙ c .loop-depth .inv
+    (c .compare-labels-found .ensures ∙ (λ i. labelOrder (c .label-at .ensures i) (c .label-at-in-loop-depth .ensures i))) (sym (c .if-is-ne .ensures tt)) ∙ c .loop-depth .inv
 
 pub returns : need.returns
 returns c =

@@ -25,7 +25,7 @@ loop-holds c =
     let n = getD bs 0 0 in
     let z : n ≡ n - 0 = omega arith in
     subst (λ k. Cutting n (between 1 (length bs) bs) (labels (c .root-name .result)) true k (between 1 (length bs) bs)) z
-      (subst (λ ls. Cutting n (between 1 (length bs) bs) ls true n (between 1 (length bs) bs)) (sym (c .root-name .ensures)) (none-cut n (between 1 (length bs) bs)))
+    (subst (λ ls. Cutting n (between 1 (length bs) bs) ls true n (between 1 (length bs) bs)) (sym (c .root-name .ensures)) (none-cut n (between 1 (length bs) bs)))
 
 pub returns-in-rest-cut-label : need.returns-in-rest-cut-label
 returns-in-rest-cut-label c =
@@ -40,7 +40,7 @@ loop-again c =
     let n = getD bs 0 0 in
     let k : n - c .loop .counter - 1 ≡ n - (c .loop .counter + 1) = omega arith in
     subst (λ j. Cutting n (between 1 (length bs) bs) (labels (c .push-if-good .last .name)) (c .push-if-good .result) j (c .in-Some .after .now)) k
-      (one-cut _ _ _ _ _ _ _ _ (c .in-Some .label .now) (c .in-Some .after .now) (c .loop .inv) (omega arith) (sym (c .in-Some .ensures tt)) (c .push-if-good .ensures .value) (c .push-if-good .ensures .after))
+    (one-cut _ _ _ _ _ _ _ _ (c .in-Some .label .now) (c .in-Some .after .now) (c .loop .inv) (omega arith) (sym (c .in-Some .ensures tt)) (c .push-if-good .ensures .value) (c .push-if-good .ensures .after))
 
 pub returns-then-not-good : need.returns-then-not-good
 returns-then-not-good c =
