@@ -1,0 +1,3 @@
+mod Runs
+pub mod Cut
+mod Numbers
