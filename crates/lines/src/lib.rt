@@ -4,7 +4,7 @@ ghost use mathlib.Core.List.{[], _∷_};
 ghost use Prim.Native.Nat.{_≤_};
 ghost use lib.ListN.{length};
 ghost use Rattle.std.specs.Options.{Cases};
-ghost use Rattle.lines.specs.Classes.{member};
+ghost use Rattle.lines.specs.Classes.{member, wordsLeft};
 ghost use Rattle.lines.specs.Lines.{readPart, run, words, withDigit, numberIn, LineLaws};
 
 // The most bytes of a line that are read.
@@ -59,13 +59,13 @@ pub struct Words<'a> {
 
 impl<'a> Words<'a> {
     pub fn new(line: &'a [u8]) -> Words<'a>
-        ensures { λ r. ⌜ words (now (r .rest)) ≡ words (now (line .entry)) ⌝ }
+        ensures { λ r. ⌜ wordsLeft r ≡ words (now (line .entry)) ⌝ }
     {
         Words { rest: line }
     }
 
     pub fn next(&mut self) -> Option<&'a [u8]>
-        ensures { λ r. ⌜ Cases r (words (now (now (self .entry) .rest)) ≡ []) (λ w. words (now (now (self .entry) .rest)) ≡ w .now ∷ words (now (now (self .exit) .rest))) ⌝ }
+        ensures { λ r. ⌜ Cases r (wordsLeft (now (self .entry)) ≡ []) (λ w. wordsLeft (now (self .entry)) ≡ w .now ∷ wordsLeft (now (self .exit))) ⌝ }
     {
         let text = self.rest;
         let text = &text[run_len(Class::Blank, text)..];

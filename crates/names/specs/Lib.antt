@@ -5,3 +5,4 @@ pub mod Names
 pub mod Order
 pub mod Reading
 pub mod Wire
+pub mod Readers

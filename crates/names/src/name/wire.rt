@@ -10,6 +10,7 @@ ghost use Rattle.std.specs.Results.{Cases};
 ghost use Rattle.names.specs.declared.fault.Fault.the-variants.{NoMemory};
 ghost use Rattle.names.specs.Labels.{proper};
 ghost use Rattle.names.specs.Names.{labels, given};
+ghost use Rattle.names.specs.Readers.{unread};
 ghost use Rattle.names.specs.Wire.{wire, cutLabel, Appends, readWire, nameRead, restRead, WireLaws};
 use super::Name;
 use crate::Fault;
@@ -45,21 +46,21 @@ pub struct Reader<'a> {
 
 impl<'a> Reader<'a> {
     pub fn new(bytes: &'a [u8]) -> Reader<'a>
-        ensures { λ r. ⌜ now (r .rest) ≡ now (bytes .entry) ⌝ }
+        ensures { λ r. ⌜ unread r ≡ now (bytes .entry) ⌝ }
     {
         Reader { rest: bytes }
     }
 
     // What is still to be read.
     pub fn rest(&self) -> &'a [u8]
-        ensures { λ r. ⌜ now r ≡ now (now (self .entry) .rest) ⌝ }
+        ensures { λ r. ⌜ now r ≡ unread (now (self .entry)) ⌝ }
     {
         self.rest
     }
 
     pub fn name(&mut self) -> Result<Name, Fault>
-        ensures value { λ r. ⌜ given r ≡ nameRead (readWire (now (now (self .entry) .rest))) ⌝ }
-        ensures rest { λ r. ⌜ now (now (self .exit) .rest) ≡ restRead (readWire (now (now (self .entry) .rest))) (now (now (self .entry) .rest)) ⌝ }
+        ensures value { λ r. ⌜ given r ≡ nameRead (readWire (unread (now (self .entry)))) ⌝ }
+        ensures rest { λ r. ⌜ unread (now (self .exit)) ≡ restRead (readWire (unread (now (self .entry)))) (unread (now (self .entry))) ⌝ }
     {
         let [count, bytes @ ..] = self.rest else {
             return Err(Fault::Malformed);
