@@ -86,10 +86,10 @@ abbrev pub meaning : List (List ℕ) → Result Meant Fault
 meaning [] = Ok Nothing
 meaning (w ∷ ws) =
     cond (sameWord w (codes "tick")) (tickOf ws)
-      (cond (sameWord w (codes "zone")) (zoneOf ws)
-        (cond (sameWord w (codes "bring")) (bringOf ws)
-          (cond (sameWord w (codes "copy")) (copyOf ws)
-            (cond (sameWord w (codes "ask")) (askOf ws) (Err Malformed)))))
+    (cond (sameWord w (codes "zone")) (zoneOf ws)
+    (cond (sameWord w (codes "bring")) (bringOf ws)
+    (cond (sameWord w (codes "copy")) (copyOf ws)
+    (cond (sameWord w (codes "ask")) (askOf ws) (Err Malformed)))))
 
 -- a line has at most 1,200 bytes, not counting a comment
 abbrev pub lineMeaning : List ℕ → Result Meant Fault

@@ -15,6 +15,7 @@ use std::alloc::Global;
 
 // The most servers, askers and boxes that a script plays; boxes are counted behind the askers.
 pub const MAX_SERVER: u64 = 4;
+
 pub const MAX_ASKER: u64 = 12;
 // The highest kind of a record set.
 pub const MAX_KIND: u64 = 31;
