@@ -36,16 +36,20 @@ unfolding wireLabels
 wire-push [] l = ap (λ x. length l ∷ x) (append-nil l)
 wire-push (m ∷ ls) l = ap (λ x. length m ∷ (m ++ x)) (wire-push ls l) ∙ ap (λ x. length m ∷ x) (sym (append-assoc m (wireLabels ls) (length l ∷ l)))
 
-pub wire-none : (ls : List (List ℕ)) → wireLabels (take 0 ls) ≡ []
+-- the loop that writes them: nothing yet, one more, all
+pub wire-none : (start : List ℕ) (ls : List (List ℕ)) → start ≡ start ++ wireLabels (take 0 ls)
 unfolding wireLabels
-wire-none ls = refl
+wire-none start ls = sym (append-nil start)
 
-pub wire-more : (ls : List (List ℕ)) (i : ℕ) (l : List ℕ) → i < length ls → l ≡ getD ls i [] → wireLabels (take (i + 1) ls) ≡ wireLabels (take i ls) ++ (length l ∷ l)
-wire-more ls i l h e = ap wireLabels (take-more ls i [] h ∙ ap (λ x. take i ls ++ x ∷ []) (sym e)) ∙ wire-push (take i ls) l
+pub wire-more : (start mid after : List ℕ) (ls : List (List ℕ)) (i : ℕ) (l : List ℕ) → i < length ls → l ≡ getD ls i [] → mid ≡ start ++ wireLabels (take i ls) → after ≡ mid ++ (length l ∷ l) → after ≡ start ++ wireLabels (take (i + 1) ls)
+wire-more start mid after ls i l h e m a =
+    let more : wireLabels (take (i + 1) ls) ≡ wireLabels (take i ls) ++ (length l ∷ l) = ap wireLabels (take-more ls i [] h ∙ ap (λ x. take i ls ++ x ∷ []) (sym e)) ∙ wire-push (take i ls) l in
+    a ∙ ap (λ x. x ++ (length l ∷ l)) m ∙ append-assoc start (wireLabels (take i ls)) (length l ∷ l) ∙ ap (λ x. start ++ x) (sym more)
 
-pub wire-all : (ls : List (List ℕ)) (n i : ℕ) → n ≡ length ls → length ls ≤ i → n ∷ wireLabels (take i ls) ≡ wire ls
+pub wire-all : (before start after : List ℕ) (ls : List (List ℕ)) (n i : ℕ) → n ≡ length ls → length ls ≤ i → start ≡ before ++ n ∷ [] → after ≡ start ++ wireLabels (take i ls) → after ≡ before ++ wire ls
 unfolding wire
-wire-all ls n i e h = λ j. e j ∷ wireLabels (take-all i ls h j)
+wire-all before start after ls n i e h s a =
+    a ∙ ap (λ x. x ++ wireLabels (take i ls)) s ∙ append-assoc before (n ∷ []) (wireLabels (take i ls)) ∙ (λ j. before ++ (e j ∷ wireLabels (take-all i ls h j)))
 
 pub label-below : (ls : List (List ℕ)) (i : ℕ) (l : List ℕ) → properLabels ls ≡ true → i < length ls → l ≡ getD ls i [] → length l < 256
 label-below ls i l p h e =

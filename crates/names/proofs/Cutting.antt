@@ -11,6 +11,8 @@ use Rattle.std.specs.declared.option.Option.the-variants.{Some, None}
 use Rattle.std.specs.declared.result.Result.{Result}
 use Rattle.std.specs.declared.result.Result.the-variants.{Ok, Err}
 use Rattle.std.specs.Orderings.{When}
+use Rattle.std.specs.Holes.{between}
+use Rattle.std.proofs.shelf.Parts.{first-rest}
 use Rattle.std.proofs.shelf.Lists.{take-at, drop-at, take-append-drop, length-take-le}
 use Rattle.std.proofs.shelf.Tests.{cond-true, cond-false, le-leb, lt-leb, leb-true, cases-bool, and-parts}
 use Rattle.names.specs.declared.fault.Fault.{Fault}
@@ -21,8 +23,13 @@ use Rattle.names.proofs.Proper.{proper-front}
 
 -- ---- one label
 
-pub cut-some : (n : ℕ) (bs : List ℕ) → n ≤ length bs → cutLabel (n ∷ bs) ≡ Some (take n bs, drop n bs)
+cut-some : (n : ℕ) (bs : List ℕ) → n ≤ length bs → cutLabel (n ∷ bs) ≡ Some (take n bs, drop n bs)
 cut-some n bs h = cond-true (leb n (length bs)) (Some (take n bs, drop n bs)) None (le-leb n (length bs) h)
+
+-- by the first byte and those behind it
+pub cut-first : (bs f b : List ℕ) → 0 < length bs → getD bs 0 0 ≤ length (between 1 (length bs) bs) → f ≡ take (getD bs 0 0) (between 1 (length bs) bs) → b ≡ drop (getD bs 0 0) (between 1 (length bs) bs) → Some (f, b) ≡ cutLabel bs
+cut-first bs f b some fits p q =
+    (λ i. Some (p i, q i)) ∙ sym (ap cutLabel (first-rest bs 0 some) ∙ cut-some (getD bs 0 0) (between 1 (length bs) bs) fits)
 
 some-so : {A : Type 0} (x y : A) → Some x ≡ Some y → x ≡ y
 some-so x y h = cc

@@ -7,10 +7,7 @@ use native.Mathlib.Omega.{arith}
 use native.Mathlib.Numerals.{add-one}
 use lib.ListN.{length, getD, take}
 use Rattle.std.specs.Holes.{between}
-use Rattle.std.specs.declared.option.Option.the-variants.{Some, None}
-use Rattle.std.specs.Finite.{nth}
 use Rattle.std.proofs.shelf.Lists.{length-take-le, getD-take}
-use Rattle.std.proofs.shelf.Maps.{nth-getD, nth-past}
 use Rattle.names.specs.declared.name.Name.{Name}
 use Rattle.names.specs.Labels.{proper}
 use Rattle.names.specs.Layout.{pieces, rising, startAt}
@@ -51,20 +48,18 @@ module _ (n : Name) where
       let c = start-used (suc i) (omega arith) in
       rw add-one (omega arith)
 
-  pub label-at : (i : ℕ) → i < n .count → getD (labels n) i [] ≡ between (startAt (n .ends) i) (startAt (n .ends) (i + 1)) (n .bytes)
+  label-at : (i : ℕ) → i < n .count → getD (labels n) i [] ≡ between (startAt (n .ends) i) (startAt (n .ends) (i + 1)) (n .bytes)
   unfolding labels
   label-at i h =
       let l = used-length in
       let a = piece-at 0 used (n .bytes) i (omega arith) in
       rw add-one (a ∙ ap (λ s. between s (getD used i 0) (n .bytes)) (start-used i (omega arith)) ∙ ap (λ e. between (startAt (n .ends) i) e (n .bytes)) (start-used (suc i) (omega arith)))
 
-  pub label-some : (i : ℕ) → i < n .count → nth (labels n) i ≡ Some (between (startAt (n .ends) i) (startAt (n .ends) (i + 1)) (n .bytes))
-  label-some i h =
+  -- the part of the block from a label's start to its end
+  pub label-part : (i s e : ℕ) → i < length (labels n) → s ≡ startAt (n .ends) i → e ≡ startAt (n .ends) (i + 1) → between s e (n .bytes) ≡ getD (labels n) i []
+  label-part i s e h p q =
       let l = count-is in
-      nth-getD (labels n) i [] (omega arith) ∙ ap Some (label-at i h)
-
-  pub label-none : (i : ℕ) → n .count ≤ i → nth (labels n) i ≡ None
-  label-none i h = let l = count-is in nth-past (labels n) i (omega arith)
+      (λ j. between (p j) (q j) (n .bytes)) ∙ sym (label-at i (omega arith))
 
   -- the weight of a name is where its last label ends, and one for each label
   pub weight-is : weight (labels n) ≡ startAt (n .ends) (n .count) + n .count

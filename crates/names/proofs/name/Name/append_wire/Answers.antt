@@ -1,7 +1,7 @@
-use mathlib.Core.Path.{sym, ap, _∙_}
-use mathlib.Core.List.{[], _∷_, _++_, append-assoc, append-nil}
+use mathlib.Core.Path.{sym}
+use mathlib.Core.List.{[], _∷_, _++_}
 use native.Mathlib.Omega.{arith}
-use lib.ListN.{length, take}
+use lib.ListN.{take}
 use Rattle.std.specs.Of.Vec.{vec-items}
 use Rattle.std.proofs.shelf.Results.{err-from-errBy}
 use Rattle.names.specs.Names.{labels}
@@ -12,7 +12,7 @@ use Rattle.names.proofs.Proper.{limits}
 use Rattle.names.proofs.name.Name.append_wire.Needs as need
 
 pub loop-depth-holds : need.loop-depth-holds
-loop-depth-holds c = sym (ap (λ x. vec-items (c .push .last .self) ++ x) (wire-none (labels (c .args .self .now))) ∙ append-nil (vec-items (c .push .last .self)))
+loop-depth-holds c = wire-none (vec-items (c .push .last .self)) (labels (c .args .self .now))
 
 pub append-label-requires : need.append-label-requires
 append-label-requires c κs =
@@ -30,16 +30,8 @@ returns-in-Break-append-label c =
 
 pub loop-depth-again : need.loop-depth-again
 loop-depth-again c =
-    let ls = labels (c .args .self .now) in
-    c .in-Continue-append-label .ensures tt
-    ∙ ap (λ x. x ++ (length (c .label-at .result .now) ∷ c .label-at .result .now)) (c .loop-depth .inv)
-    ∙ append-assoc (vec-items (c .push .last .self)) (wireLabels (take (c .loop-depth .depth) ls)) (length (c .label-at .result .now) ∷ c .label-at .result .now)
-    ∙ ap (λ x. vec-items (c .push .last .self) ++ x) (sym (wire-more ls (c .loop-depth .depth) (c .label-at .result .now) (omega arith) (c .label-at .ensures)))
+    wire-more (vec-items (c .push .last .self)) (vec-items (c .loop-depth .out)) (vec-items (c .append-label .last .out)) (labels (c .args .self .now)) (c .loop-depth .depth) (c .label-at .result .now) (omega arith) (c .label-at .ensures) (c .loop-depth .inv) (c .in-Continue-append-label .ensures tt)
 
 pub returns : need.returns
 returns c =
-    let ls = labels (c .args .self .now) in
-    c .loop-depth .inv
-    ∙ ap (λ x. x ++ wireLabels (take (c .loop-depth .depth) ls)) (c .in-Continue-push .ensures tt .items)
-    ∙ append-assoc (vec-items (c .args .out .now)) (c .args .self .now .count ∷ []) (wireLabels (take (c .loop-depth .depth) ls))
-    ∙ ap (λ x. vec-items (c .args .out .now) ++ x) (wire-all ls (c .args .self .now .count) (c .loop-depth .depth) (sym (count-is (c .args .self .now))) (omega arith))
+    wire-all (vec-items (c .args .out .now)) (vec-items (c .push .last .self)) (vec-items (c .loop-depth .out)) (labels (c .args .self .now)) (c .args .self .now .count) (c .loop-depth .depth) (sym (count-is (c .args .self .now))) (omega arith) (c .in-Continue-push .ensures tt .items) (c .loop-depth .inv)

@@ -1,8 +1,6 @@
-use mathlib.Core.Path.{sym, _∙_}
 use native.Mathlib.Omega.{arith}
 use borrow.Author.Needs.{needs}
-use Rattle.std.specs.Holes.{between}
-use Rattle.names.proofs.Laws.{count-is, label-at, start-below}
+use Rattle.names.proofs.Laws.{count-is, label-part, start-below}
 use Rattle.names.proofs.name.Name.label_at.Needs as need
 
 pub start-requires : need.start-requires
@@ -27,7 +25,4 @@ part-result-start c =
     search needs
 
 pub returns : need.returns
-returns c =
-    let h = count-is (c .args .self .now) in
-    (λ i. between (c .start .ensures .value i) (c .start-2 .ensures .value i) (c .args .self .now .bytes))
-    ∙ sym (label-at (c .args .self .now) (c .args .depth) (omega arith))
+returns c = label-part (c .args .self .now) (c .args .depth) (c .start .result) (c .start-2 .result) (c .pre) (c .start .ensures .value) (c .start-2 .ensures .value)

@@ -12,7 +12,7 @@ use Rattle.names.proofs.name.Name.push.Needs.{then-count-ge-MAX-LABELS·by·th
 pub returns-then-count-ge-MAX-LABELS : need.returns-then-count-ge-MAX-LABELS
 returns-then-count-ge-MAX-LABELS c = (
   elim (c .then-count-ge-MAX-LABELS .came) [
-    | then-count-ge-MAX-LABELS·by·then-count-ge-MAX-LABELS w ↦ full (c .args .self .now) (c .args .label .now) (w .if-count-ge-MAX-LABELS .taken)
+    | then-count-ge-MAX-LABELS·by·then-count-ge-MAX-LABELS w ↦ full (c .args .self .now) (c .args .label .now) (omega (arith, w .if-count-ge-MAX-LABELS .taken))
     | then-count-ge-MAX-LABELS·by·else-count-ge-MAX-LABELS·then-not-is-label w ↦ ill-made (c .args .self .now) (c .args .label .now) (sym (w .if-not-is-label .ensures tt))
   ],
   refl,
@@ -29,11 +29,11 @@ returns-then-end-count-gt-MAX-WRITTEN c = (too-long (c .args .self .now) (c .arg
 
 pub ghost-self : need.ghost-self
 ghost-self c =
-    let p = pushed (c .args .self .now) (c .args .label .now) (c .start-start .result) (c .copy-from-slice .last .self) (sym (c .if-not-is-label .ensures tt)) (c .start-start .ensures .value) (c .if-count-ge-MAX-LABELS .left) (omega arith) (c .if-end-count-gt-MAX-WRITTEN .left) (omega arith) (c .copy-from-slice .ensures .after) in
+    let p = pushed (c .args .self .now) (c .args .label .now) (c .start-start .result) (c .copy-from-slice .last .self) (sym (c .if-not-is-label .ensures tt)) (c .start-start .ensures .value) (omega arith) (omega arith) (omega arith) (omega arith) (c .copy-from-slice .ensures .after) in
     (p .counted, (p .laid, (ap proper (p .labelled) ∙ p .limited, tt)))
 
 pub returns : need.returns
 unfolding labels
 returns c =
-    let p = pushed (c .args .self .now) (c .args .label .now) (c .start-start .result) (c .copy-from-slice .last .self) (sym (c .if-not-is-label .ensures tt)) (c .start-start .ensures .value) (c .if-count-ge-MAX-LABELS .left) (omega arith) (c .if-end-count-gt-MAX-WRITTEN .left) (omega arith) (c .copy-from-slice .ensures .after) in
+    let p = pushed (c .args .self .now) (c .args .label .now) (c .start-start .result) (c .copy-from-slice .last .self) (sym (c .if-not-is-label .ensures tt)) (c .start-start .ensures .value) (omega arith) (omega arith) (omega arith) (omega arith) (c .copy-from-slice .ensures .after) in
     named (labels (c .args .self .now) ++ c .args .label .now ∷ []) (p .limited) ∙ ap Ok (sym (p .labelled))
