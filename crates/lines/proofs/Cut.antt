@@ -4,10 +4,11 @@ use mathlib.Core.Bool.{Bool, true, false, not, cond, _&&_, _||_, true≢false}
 use mathlib.Core.List.{List, [], _∷_, _++_}
 use Prim.Native.Nat.{ℕ, zero, suc, _+_, _≤_, _<_}
 use native.Mathlib.Omega.{arith}
+use lib.Dec.{ltb}
 use lib.ListN.{length, take, drop}
-use Rattle.std.proofs.shelf.Lists.{take-at, drop-at, take-append-le, append-nil}
-use Rattle.std.proofs.shelf.Tests.{cond-true, cond-false, and-parts, not-from-false, not-from-true}
-use Rattle.lines.specs.Lines.{blank, inWord, run, readable, readPart, goesOn, before, words, blankless, LineLaws}
+use Rattle.std.proofs.shelf.Lists.{take-at, drop-at, take-append-le, take-all, append-nil, length-append}
+use Rattle.std.proofs.shelf.Tests.{cond-true, cond-false, and-parts, ltb-true, not-from-false, not-from-true}
+use Rattle.lines.specs.Lines.{blank, inWord, run, readable, readPart, goesOn, before, words, plain, field, fields, lineOf, LineLaws}
 use Rattle.lines.proofs.Runs.{run-cons, run-stop, run-nil, run-after, run-append}
 
 words-blank : (b : ℕ) (bs : List ℕ) → blank b ≡ true → words (b ∷ bs) ≡ words bs
@@ -77,24 +78,66 @@ no-word (b ∷ t) h k = go (blank b) refl
 
 -- ---- the laws
 
-all-word : (w : List ℕ) → blankless w ≡ true → run inWord w ≡ length w
+all-word : (w : List ℕ) → plain w ≡ true → run inWord w ≡ length w
 all-word [] h = run-nil inWord
 all-word (b ∷ w) h =
-    let p = and-parts (inWord b) (blankless w) h in
-    run-cons inWord b w (p .0) ∙ ap suc (all-word w (p .1))
+    let p = and-parts (inWord b && readable b) (plain w) h in
+    run-cons inWord b w (and-parts (inWord b) (readable b) (p .0) .0) ∙ ap suc (all-word w (p .1))
 
-one-more : (w rest : List ℕ) → blankless w ≡ true → 0 < length w → words (w ++ 32 ∷ rest) ≡ w ∷ words rest
-one-more w rest h n =
-    let r : run inWord (w ++ 32 ∷ rest) ≡ length w = run-append inWord w (32 ∷ rest) (run-stop inWord 32 rest refl) ∙ all-word w h in
+one-more : (w rest : List ℕ) → field w ≡ true → words (w ++ 32 ∷ rest) ≡ w ∷ words rest
+one-more w rest h =
+    let p = and-parts (ltb 0 (length w)) (plain w) h in
+    let n = ltb-true 0 (length w) (p .0) in
+    let r : run inWord (w ++ 32 ∷ rest) ≡ length w = run-append inWord w (32 ∷ rest) (run-stop inWord 32 rest refl) ∙ all-word w (p .1) in
     cut-word (w ++ 32 ∷ rest) (omega arith) ∙ ap (λ m. take m (w ++ 32 ∷ rest) ∷ words (drop m (w ++ 32 ∷ rest))) r
     ∙ (λ i. take-at w (32 ∷ rest) (length w) refl i ∷ words (drop-at w (32 ∷ rest) (length w) refl i)) ∙ ap (λ ws. w ∷ ws) (words-blank 32 rest refl)
 
-alone : (w : List ℕ) → blankless w ≡ true → 0 < length w → words w ≡ w ∷ []
-alone w h n =
-    let r = all-word w h in
+alone : (w : List ℕ) → field w ≡ true → words w ≡ w ∷ []
+alone w h =
+    let p = and-parts (ltb 0 (length w)) (plain w) h in
+    let n = ltb-true 0 (length w) (p .0) in
+    let r = all-word w (p .1) in
     let t : take (length w) w ≡ w = ap (take (length w)) (sym (append-nil w)) ∙ take-at w [] (length w) refl in
     let d : drop (length w) w ≡ [] = ap (drop (length w)) (sym (append-nil w)) ∙ drop-at w [] (length w) refl in
     cut-word w (omega arith) ∙ ap (λ m. take m w ∷ words (drop m w)) r ∙ (λ i. t i ∷ words (d i)) ∙ ap (λ ws. w ∷ ws) words-nil
+
+row : (ws : List (List ℕ)) → fields ws ≡ true → words (lineOf ws) ≡ ws
+unfolding lineOf
+row [] h = words-nil
+row (w ∷ []) h = alone w (and-parts (field w) true h .0)
+row (w ∷ v ∷ ws) h =
+    let p = and-parts (field w) (fields (v ∷ ws)) h in
+    one-more w (lineOf (v ∷ ws)) (p .0) ∙ ap (λ x. w ∷ x) (row (v ∷ ws) (p .1))
+
+all-read : (w : List ℕ) → plain w ≡ true → run readable w ≡ length w
+all-read [] h = run-nil readable
+all-read (b ∷ w) h =
+    let p = and-parts (inWord b && readable b) (plain w) h in
+    run-cons readable b w (and-parts (inWord b) (readable b) (p .0) .1) ∙ ap suc (all-read w (p .1))
+
+-- a front that is read whole, and what follows it
+read-on : (w rest : List ℕ) → plain w ≡ true → run readable (w ++ rest) ≡ length w + run readable rest
+read-on [] rest h = omega arith
+read-on (b ∷ w) rest h =
+    let p = and-parts (inWord b && readable b) (plain w) h in
+    let a = run-cons readable b (w ++ rest) (and-parts (inWord b) (readable b) (p .0) .1) in
+    let r = read-on w rest (p .1) in
+    omega arith
+
+run-line : (ws : List (List ℕ)) → fields ws ≡ true → run readable (lineOf ws) ≡ length (lineOf ws)
+unfolding lineOf
+run-line [] h = run-nil readable
+run-line (w ∷ []) h = all-read w (and-parts (ltb 0 (length w)) (plain w) (and-parts (field w) true h .0) .1)
+run-line (w ∷ v ∷ ws) h =
+    let p = and-parts (field w) (fields (v ∷ ws)) h in
+    let a = read-on w (32 ∷ lineOf (v ∷ ws)) (and-parts (ltb 0 (length w)) (plain w) (p .0) .1) in
+    let b = run-cons readable 32 (lineOf (v ∷ ws)) refl in
+    let c = run-line (v ∷ ws) (p .1) in
+    let d = length-append w (32 ∷ lineOf (v ∷ ws)) in
+    omega arith
+
+whole : (ws : List (List ℕ)) → fields ws ≡ true → readPart (lineOf ws) ≡ lineOf ws
+whole ws h = ap (λ n. take n (lineOf ws)) (run-line ws h) ∙ take-all (length (lineOf ws)) (lineOf ws) (omega arith)
 
 front-of : (line rest : List ℕ) (n : ℕ) → n ≤ length line → take n (line ++ rest) ≡ take n line
 front-of line rest n h = take-append-le n line rest h
@@ -112,7 +155,7 @@ comment line rest =
     ap (λ n. take n (line ++ 59 ∷ rest)) (run-append readable line (59 ∷ rest) (run-stop readable 59 rest refl)) ∙ front-of line (59 ∷ rest) (run readable line) (run-within line)
 
 pub line-laws : LineLaws
-line-laws = record { one-more = one-more; alone = alone; comment = comment }
+line-laws = record { whole = whole; row = row; comment = comment }
 
 -- ---- one word cut off: u is what follows the blanks
 

@@ -2,7 +2,7 @@
 use mathlib.Core.Path.{_≡_}
 use mathlib.Core.Bool.{Bool, true, false, cond, not, _&&_, _||_}
 use mathlib.Core.List.{List, [], _∷_, _++_}
-use Prim.Native.Nat.{ℕ, zero, suc, _+_, _-_, _*_, _^_, _<_}
+use Prim.Native.Nat.{ℕ, zero, suc, _+_, _-_, _*_, _^_}
 use lib.Dec.{eqb, leb, ltb}
 use lib.ListN.{length, take}
 use Rattle.std.specs.declared.option.Option.{Option}
@@ -63,14 +63,27 @@ withDigit n b = cond (digit b && ltb (n * 10 + (b - 48)) (2 ^ 64)) (Some (n * 10
 unfoldable pub numberIn : List ℕ → Option ℕ
 numberIn w = cond (ltb 0 (length w) && digits w && ltb (valueFrom 0 w) (2 ^ 64)) (Some (valueFrom 0 w)) None
 
--- no byte of a word is a blank
-abbrev pub blankless : List ℕ → Bool
-blankless [] = true
-blankless (b ∷ bs) = inWord b && blankless bs
+-- a word as a line can hold it: one or more bytes, none of them a blank or a semicolon
+abbrev pub plain : List ℕ → Bool
+plain [] = true
+plain (b ∷ bs) = inWord b && readable b && plain bs
+
+abbrev pub field : List ℕ → Bool
+field w = ltb 0 (length w) && plain w
+
+abbrev pub fields : List (List ℕ) → Bool
+fields [] = true
+fields (w ∷ ws) = field w && fields ws
+
+-- words written as a line, with a space between each two
+unfoldable pub lineOf : List (List ℕ) → List ℕ
+lineOf [] = []
+lineOf (w ∷ []) = w
+lineOf (w ∷ v ∷ ws) = w ++ (32 ∷ lineOf (v ∷ ws))
 
 pub record LineLaws : Type 0 where
-  -- a word and a blank before more of a line is that word and the words of the rest
-  pub one-more : (w rest : List ℕ) → blankless w ≡ true → 0 < length w → words (w ++ 32 ∷ rest) ≡ w ∷ words rest
-  pub alone : (w : List ℕ) → blankless w ≡ true → 0 < length w → words w ≡ w ∷ []
+  -- what was written as a line of words is read as a whole, and as those words
+  pub whole : (ws : List (List ℕ)) → fields ws ≡ true → readPart (lineOf ws) ≡ lineOf ws
+  pub row : (ws : List (List ℕ)) → fields ws ≡ true → words (lineOf ws) ≡ ws
   -- a comment changes nothing
   pub comment : (line rest : List ℕ) → readPart (line ++ 59 ∷ rest) ≡ readPart line

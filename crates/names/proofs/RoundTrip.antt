@@ -83,7 +83,7 @@ written-highest l m ms =
     let b = ap length (reverse-cons m ms) in
     ap dotted (reverse-cons l (m ∷ ms)) ∙ dotted-push-all (reverse (m ∷ ms)) l (omega arith)
 
-written-one : (l : List ℕ) → written (l ∷ []) ≡ l
+pub written-one : (l : List ℕ) → written (l ∷ []) ≡ l
 unfolding written dotted
 written-one l = refl
 
@@ -119,7 +119,7 @@ written-last (l ∷ m ∷ ms) h n =
     let g = and-parts (properLabel l) (properLabels (m ∷ ms)) h .0 in
     ap lastDot (written-highest l m ms ∙ sym (append-assoc (written (m ∷ ms)) (46 ∷ []) l)) ∙ ends-with-label (written (m ∷ ms) ++ 46 ∷ []) l (label-dotless l g) (label-length l g .0)
 
-written-there : (ls : List (List ℕ)) → properLabels ls ≡ true → 0 < length ls → 0 < length (written ls)
+pub written-there : (ls : List (List ℕ)) → properLabels ls ≡ true → 0 < length ls → 0 < length (written ls)
 written-there [] h n = absurd (omega arith)
 written-there (l ∷ []) h n =
     let g = label-length l (and-parts (properLabel l) true h .0) .0 in
@@ -164,7 +164,7 @@ read-written (l ∷ ls) h =
     let e = labels-written (l ∷ ls) p (omega arith) in
     read-labels (written (l ∷ ls)) (not-dot (written (l ∷ ls)) (written-last (l ∷ ls) p (omega arith))) ∙ ap nameOf e ∙ named (l ∷ ls) h
 
-written-root : written [] ≡ 46 ∷ []
+pub written-root : written [] ≡ 46 ∷ []
 unfolding written
 written-root = refl
 

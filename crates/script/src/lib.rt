@@ -3,6 +3,7 @@ ghost use mathlib.Core.Path.{_≡_};
 ghost use Rattle.lines.specs.Classes.{wordsLeft};
 ghost use Rattle.names.specs.Names.{given};
 ghost use Rattle.script.specs.Commands.{commandOf, Reads};
+ghost use Rattle.script.specs.Laws.{ScriptLaws};
 ghost use Rattle.script.specs.Grammar.{sameWord, placeIn, meaning, lineMeaning, tickOf, zoneOf, bringOf, copyOf, askOf};
 use lines::MAX_LINE;
 use lines::Words;
@@ -157,3 +158,7 @@ pub fn read_command(heap: Global, line: &[u8]) -> Result<Command, Fault>
     }
     read_words(heap, Words::new(line))
 }
+
+pub fn script_laws()
+    ensures { λ _. ⌜ ScriptLaws ⌝ }
+{}
