@@ -1,0 +1,5 @@
+mod Finding
+pub mod Rules
+pub mod Saying
+mod Table
+mod Measured
