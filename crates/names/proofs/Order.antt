@@ -189,3 +189,20 @@ order-ends a b i n m r p q e h =
   where
     one-gone : (i n m : ℕ) → i ≡ min n m → (n - i ≡ 0) ⊎ (m - i ≡ 0)
     one-gone i n m e = ⊎-elim (λ l. inl (omega arith)) (λ l. inr (omega arith)) (cases-lt n m)
+
+-- ---- as an order of keys
+
+pub order-flip : (a b : List (List ℕ)) → order a b ≡ reversed (order b a)
+unfolding order
+order-flip = lexical (lexical unsigned) .flip
+
+pub order-trans : (a b c : List (List ℕ)) → order a b ≡ Less → order b c ≡ Less → order a c ≡ Less
+unfolding order
+order-trans = lexical (lexical unsigned) .trans
+
+pub order-alike : (a b c : List (List ℕ)) → order a b ≡ Equal → order a c ≡ order b c
+unfolding order
+order-alike = lexical (lexical unsigned) .alike
+
+abbrev pub names-total : Total (λ (a b : List (List ℕ)) (r : Ordering). r ≡ order a b)
+names-total = record { cmp = order; says = λ a b r h. h; flip = order-flip; trans = order-trans; alike = order-alike }

@@ -3,3 +3,10 @@ pub mod Rules
 pub mod Saying
 mod Table
 mod Measured
+mod Places
+mod ByPlace
+mod Down
+mod Spoken
+mod Insert
+mod Standing
+mod Added

@@ -82,7 +82,7 @@ nothing-of z q k a (empty t n x y u) e = let w : _≡_ {A = ℕ} 0 1 = cc in abs
 
 -- ---- names above one another
 
-no-longer : (a b : List (List ℕ)) → within a b ≡ true → length a ≤ length b
+pub no-longer : (a b : List (List ℕ)) → within a b ≡ true → length a ≤ length b
 no-longer a b h =
     let r = within-laws .front a b h in
     let n = ap length (r .1) in

@@ -5,3 +5,6 @@ pub mod Cases
 pub mod Numbers
 pub mod Contents
 pub mod Sets
+pub mod Sorted
+pub mod Valid
+pub mod Zones

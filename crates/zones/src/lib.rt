@@ -4,8 +4,10 @@ ghost use Rattle.zones.specs.Laws.{SaysLaws};
 ghost use Rattle.zones.specs.Says.{SaysMeans};
 
 mod data;
+mod search;
 mod set;
 mod types;
+mod zone;
 
 pub use data::Data;
 pub use data::Delegation;
@@ -16,6 +18,8 @@ pub use types::Serial;
 pub use types::Ttl;
 pub use types::numbers::AddressEq;
 pub use types::numbers::AddressPartialEq;
+pub use zone::Zone;
+pub use zone::lookup::Reply;
 
 // The rules of what a zone says have one answer, whatever the order of its sets, and `says` gives it.
 pub fn says_means()

@@ -3,7 +3,7 @@ ghost use mathlib.Core.Path.{_≡_};
 ghost use mathlib.Core.List.{[], _∷_, _++_};
 ghost use Prim.Native.Nat.{_≤_, _<_};
 ghost use denote.Ref.{now as at};
-ghost use lib.ListN.{length, getD};
+ghost use lib.ListN.{length, getD, take};
 ghost use Rattle.std.specs.Finite.{nth};
 ghost use Rattle.std.specs.Options.{mapped};
 ghost use Rattle.names.specs.Labels.{labelByte, labelBytes, properLabel};
@@ -115,16 +115,26 @@ impl Name {
         Ok(name)
     }
 
+    // The name of the first labels, at most that many.
+    pub fn ancestor(&self, count: usize) -> Name
+        ensures { λ r. ⌜ labels r ≡ take count (labels (now (self .entry))) ⌝ }
+    {
+        if count >= self.label_count() {
+            return *self;
+        }
+        Name {
+            bytes: self.bytes,
+            ends: self.ends,
+            count: count as u8,
+        }
+    }
+
     pub fn parent(&self) -> Option<Name>
         ensures { λ r. ⌜ mapped labels r ≡ parentOf (labels (now (self .entry))) ⌝ }
     {
-        if self.count == 0 {
+        if self.label_count() == 0 {
             return None;
         }
-        Some(Name {
-            bytes: self.bytes,
-            ends: self.ends,
-            count: self.count - 1,
-        })
+        Some(self.ancestor(self.label_count() - 1))
     }
 }

@@ -8,6 +8,11 @@ use super::Kind;
 use super::Serial;
 use names::Fault;
 
+// The kinds that mean more than their data.
+pub const DELEGATION: u8 = 4;
+
+pub const ALIAS: u8 = 5;
+
 impl Kind {
     pub fn new(number: u8) -> Result<Kind, Fault>
         ensures { λ r. ⌜ kindGiven r ≡ kindOf number ⌝ }
@@ -29,13 +34,13 @@ impl Kind {
     pub fn is_delegation(self) -> bool
         ensures { λ r. ⌜ r ≡ delegates (self .number) ⌝ }
     {
-        self.number == 4
+        self.number == DELEGATION
     }
 
     pub fn is_alias(self) -> bool
         ensures { λ r. ⌜ r ≡ aliases (self .number) ⌝ }
     {
-        self.number == 5
+        self.number == ALIAS
     }
 
     // Are its data bytes that mean nothing here?
