@@ -1,8 +1,11 @@
 // Plays a script from standard input, up to its end or its first faulty line.
 mod clock;
+mod sample;
+mod walk;
 
 use clock::Clock;
 use names::Fault;
+use names::Name;
 use names::NameDisplay;
 use script::Command;
 use script::read_command;
@@ -10,9 +13,17 @@ use std::alloc::Global;
 use std::io;
 use std::io::BufRead;
 use std::io::BufReader;
+use zones::Kind;
+use zones::Zone;
 
-// What a line asks for, as far as it can be played: so far, the clock.
-fn play(rt: &LibcRuntime, clock: &mut Clock, line: u64, command: Command) -> io::Result<()> {
+// What a line asks for, as far as it can be played: so far the clock, and questions by the sample zones.
+fn play(
+    rt: &LibcRuntime,
+    clock: &mut Clock,
+    zones: &[Zone],
+    line: u64,
+    command: Command,
+) -> io::Result<()> {
     match command {
         Command::Nothing => Ok(()),
         Command::Tick => match clock.tick() {
@@ -30,14 +41,20 @@ fn play(rt: &LibcRuntime, clock: &mut Clock, line: u64, command: Command) -> io:
             )
         }
         Command::Ask { asker, name, kind } => {
-            println!(
-                rt,
-                "line {line}: ask {asker} {name} {kind}: read, not played yet"
-            )
+            println!(rt, "line {line}: ask {asker} {name} {kind}")?;
+            ask(rt, zones, &name, kind)
         }
         Command::Bring { packet } => {
             println!(rt, "line {line}: bring {packet}: read, not played yet")
         }
+    }
+}
+
+fn ask(rt: &LibcRuntime, zones: &[Zone], name: &Name, kind: u64) -> io::Result<()> {
+    let number = u8::try_from(kind).unwrap_or(0);
+    match Kind::new(number) {
+        Ok(kind) => walk::walk(rt, zones, name, kind),
+        Err(_) => Ok(()),
     }
 }
 
@@ -50,12 +67,16 @@ fn report(rt: &LibcRuntime, line: u64, fault: Fault) -> io::Result<()> {
 
 fn run(rt: &LibcRuntime, heap: Global) -> io::Result<()> {
     let mut clock = Clock::new();
+    let zones = match sample::zones(heap) {
+        Ok(zones) => zones,
+        Err(fault) => return report(rt, 0, fault),
+    };
     let mut line: u64 = 0;
     for bytes in BufReader::new(rt.stdin()).split(heap, b'\n') {
         let bytes = bytes?;
         line = line.saturating_add(1);
         match read_command(heap, bytes.as_slice()) {
-            Ok(command) => play(rt, &mut clock, line, command)?,
+            Ok(command) => play(rt, &mut clock, zones.as_slice(), line, command)?,
             Err(fault) => {
                 report(rt, line, fault)?;
                 let now = clock.now();

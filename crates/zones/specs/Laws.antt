@@ -9,6 +9,7 @@ use Rattle.std.specs.declared.option.Option.{Option}
 use Rattle.std.specs.declared.option.Option.the-variants.{Some, None}
 use Rattle.names.specs.Order.{within}
 use Rattle.zones.specs.Model.{delegates, aliases, Set, Zone}
+use Rattle.zones.specs.Sorted.{sorted}
 use Rattle.zones.specs.Says.{Speaker, ByDelegation, BySet, ByAlias, NoData, NoName, Over, AliasAt, No, same, isOver, highest, says, Distinct}
 
 -- ---- sets that are never told
@@ -58,3 +59,7 @@ pub record SaysLaws : Type 0 where
   pub no-name-below : (z : Zone) → Distinct z → (p q : List (List ℕ)) (j k : ℕ) → says z p j ≡ Some NoName → within p q ≡ true → says z q k ≡ Some NoName
   -- sets that are hidden decide nothing
   pub unhidden-same : (z : Zone) → Distinct z → (q : List (List ℕ)) (k : ℕ) → says (unhidden z) q k ≡ says z q k
+
+-- sorted sets are distinct, so all this holds of every zone that is made
+abbrev pub SortedDistinct : Type 0
+SortedDistinct = (z : Zone) → sorted (z .sets) ≡ true → Distinct z

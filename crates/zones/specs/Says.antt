@@ -8,7 +8,7 @@ use lib.ListN.{length}
 use Rattle.std.specs.declared.option.Option.{Option}
 use Rattle.std.specs.declared.option.Option.the-variants.{Some, None}
 use Rattle.names.specs.Order.{sameLabel, within}
-use Rattle.zones.specs.Model.{delegates, aliases, Set, Zone}
+use Rattle.zones.specs.Model.{delegates, aliases, Content, Set, Zone}
 
 -- what spoke; what it says, and for how long that may be remembered, follow from it
 pub data Speaker : Type 0 where
@@ -120,3 +120,27 @@ pub record SaysMeans : Type 0 where
   pub unique : (z : Zone) → Distinct z → (q : List (List ℕ)) (k : ℕ) (a b : Speaker) → Rule z q k a → Rule z q k b → a ≡ b
   -- so the order of the sets doesn't matter
   pub unordered : (y z : Zone) → Distinct z → y .apex ≡ z .apex → SameSets y z → (q : List (List ℕ)) (k : ℕ) → says y q k ≡ says z q k
+
+-- ---- what is said, and for how long
+
+pub data Said : Type 0 where
+  Found : (content : Content) → Said
+  AliasTo : (content : Content) → Said
+  Referred : (name : List (List ℕ)) → (content : Content) → Said
+  Empty : Said
+  Absent : Said
+
+abbrev pub saidBy : Speaker → Said
+saidBy (BySet s) = Found (s .content)
+saidBy (ByAlias s) = AliasTo (s .content)
+saidBy (ByDelegation s) = Referred (s .name) (s .content)
+saidBy NoData = Empty
+saidBy NoName = Absent
+
+-- the time of the set that spoke, or that of what isn't there
+abbrev pub timeOf : Zone → Speaker → ℕ
+timeOf z (BySet s) = s .ttl
+timeOf z (ByAlias s) = s .ttl
+timeOf z (ByDelegation s) = s .ttl
+timeOf z NoData = z .negative
+timeOf z NoName = z .negative

@@ -1,6 +1,6 @@
-// Zones, and what a zone says of a name and a kind. So far: the definitions with their laws, and record sets.
+// Zones: record sets, made within their limits, and what a zone says of a name and a kind.
 ghost use Rattle.zones.specs.Cases.{CasesHold};
-ghost use Rattle.zones.specs.Laws.{SaysLaws};
+ghost use Rattle.zones.specs.Laws.{SaysLaws, SortedDistinct};
 ghost use Rattle.zones.specs.Says.{SaysMeans};
 
 mod data;
@@ -18,6 +18,7 @@ pub use types::Serial;
 pub use types::Ttl;
 pub use types::numbers::AddressEq;
 pub use types::numbers::AddressPartialEq;
+pub use zone::MAX_SETS;
 pub use zone::Zone;
 pub use zone::lookup::Reply;
 
@@ -29,6 +30,11 @@ pub fn says_means()
 // The laws of what a zone says, for the layers above.
 pub fn says_laws()
     ensures { λ _. ⌜ SaysLaws ⌝ }
+{}
+
+// A zone's sets are sorted, so they are distinct, which the laws ask for.
+pub fn sorted_distinct()
+    ensures { λ _. ⌜ SortedDistinct ⌝ }
 {}
 
 // The table of worked cases.

@@ -60,7 +60,7 @@ pub fn find_exact<'a>(sets: &'a [RecordSet], name: &Name, kind: u8) -> Option<&'
     }
 }
 
-fn is_exactly(set: &RecordSet, name: &Name, kind: u8) -> bool
+pub fn is_exactly(set: &RecordSet, name: &Name, kind: u8) -> bool
     ensures { λ r. ⌜ r ≡ isExactly (labels (now (name .entry))) kind (setOf (now (set .entry))) ⌝ }
 {
     *set.name() == *name && set.kind().number() == kind

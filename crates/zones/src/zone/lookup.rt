@@ -1,19 +1,26 @@
 // What a zone says of a name and a kind, found by searches that halve.
 ghost use mathlib.Core.Path.{_≡_};
+ghost use mathlib.Core.List.{map};
 ghost use Rattle.std.specs.Options.{mapped};
 ghost use Rattle.names.specs.Names.{labels};
-ghost use Rattle.zones.specs.Says.{speaker, says};
+ghost use Rattle.zones.specs.Laws.{isHidden};
+ghost use Rattle.zones.specs.Says.{speaker, says, timeOf};
+ghost use Rattle.zones.specs.Sets.{setOf};
 ghost use Rattle.zones.specs.Zones.{zoneOf, speakerOf};
 use super::Zone;
 use crate::search::find_delegation;
 use crate::search::find_exact;
+use crate::search::is_exactly;
 use crate::search::is_under;
 use crate::set::RecordSet;
 use crate::types::Kind;
+use crate::types::Serial;
+use crate::types::Ttl;
 use crate::types::numbers::ALIAS;
 use names::Name;
 
 // What spoke.
+#[derive(Clone, Copy)]
 pub enum Reply<'a> {
     Data(&'a RecordSet),
     Alias(&'a RecordSet),
@@ -52,5 +59,46 @@ impl Zone {
         } else {
             None
         }
+    }
+
+    // For how many seconds a reply of this zone may be remembered.
+    pub fn ttl_of(&self, reply: &Reply) -> Ttl
+        ensures { λ r. ⌜ r .0 ≡ timeOf (zoneOf (now (self .entry))) (speakerOf (now (reply .entry))) ⌝ }
+    {
+        match reply {
+            Reply::Data(set) => set.ttl(),
+            Reply::Alias(set) => set.ttl(),
+            Reply::Referral(set) => set.ttl(),
+            Reply::NoData => self.negative,
+            Reply::NoName => self.negative,
+        }
+    }
+
+    // Whether a set is never told, since a delegation at its name or above it speaks in its place.
+    pub fn is_hidden(&self, set: &RecordSet) -> bool
+        ensures { λ r. ⌜ r ≡ isHidden (zoneOf (now (self .entry))) (setOf (now (set .entry))) ⌝ }
+    {
+        match find_delegation(self.sets.as_slice(), &self.apex, set.name()) {
+            None => false,
+            Some(over) => !is_exactly(over, set.name(), set.kind().number()),
+        }
+    }
+
+    pub fn apex(&self) -> &Name
+        ensures { λ r. ⌜ labels (now r) ≡ zoneOf (now (self .entry)) .apex ⌝ }
+    {
+        &self.apex
+    }
+
+    pub fn serial(&self) -> Serial
+        ensures { λ r. ⌜ r .number ≡ zoneOf (now (self .entry)) .serial ⌝ }
+    {
+        self.serial
+    }
+
+    pub fn sets(&self) -> &[RecordSet]
+        ensures { λ r. ⌜ map setOf (now r) ≡ zoneOf (now (self .entry)) .sets ⌝ }
+    {
+        self.sets.as_slice()
     }
 }
