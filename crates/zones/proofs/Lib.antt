@@ -3,6 +3,7 @@ pub mod Rules
 pub mod Saying
 mod Table
 mod Measured
+mod Picked
 mod Places
 mod ByPlace
 mod Down

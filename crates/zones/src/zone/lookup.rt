@@ -1,9 +1,12 @@
 // What a zone says of a name and a kind, found by searches that halve.
 ghost use mathlib.Core.Path.{_≡_};
 ghost use mathlib.Core.List.{map};
+ghost use Rattle.std.specs.Of.Vec.{vec-items};
 ghost use Rattle.std.specs.Options.{mapped};
+ghost use Rattle.std.specs.Results.{Cases};
+ghost use Rattle.names.specs.declared.fault.Fault.the-variants.{NoMemory};
 ghost use Rattle.names.specs.Names.{labels};
-ghost use Rattle.zones.specs.Laws.{isHidden};
+ghost use Rattle.zones.specs.Laws.{isHidden, hidden};
 ghost use Rattle.zones.specs.Says.{speaker, says, timeOf};
 ghost use Rattle.zones.specs.Sets.{setOf};
 ghost use Rattle.zones.specs.Zones.{zoneOf, speakerOf};
@@ -17,7 +20,10 @@ use crate::types::Kind;
 use crate::types::Serial;
 use crate::types::Ttl;
 use crate::types::numbers::ALIAS;
+use names::Fault;
+use names::FaultFromRefused;
 use names::Name;
+use std::alloc::Global;
 
 // What spoke.
 #[derive(Clone, Copy)]
@@ -84,6 +90,19 @@ impl Zone {
         }
     }
 
+    // The sets that are never told, in their order.
+    pub fn hidden(&self, heap: Global) -> Result<Vec<&RecordSet>, Fault>
+        ensures { λ r. ⌜ Cases r (λ v. map (λ s. setOf (s .now)) (vec-items v) ≡ hidden (zoneOf (now (self .entry)))) (λ f. f ≡ NoMemory) ⌝ }
+    {
+        let mut found = Vec::new(heap);
+        for set in self.sets.as_slice() {
+            if self.is_hidden(set) {
+                found.push(set)?;
+            }
+        }
+        Ok(found)
+    }
+
     pub fn apex(&self) -> &Name
         ensures { λ r. ⌜ labels (now r) ≡ zoneOf (now (self .entry)) .apex ⌝ }
     {
@@ -94,6 +113,24 @@ impl Zone {
         ensures { λ r. ⌜ r .number ≡ zoneOf (now (self .entry)) .serial ⌝ }
     {
         self.serial
+    }
+
+    pub fn negative(&self) -> Ttl
+        ensures { λ r. ⌜ r .0 ≡ zoneOf (now (self .entry)) .negative ⌝ }
+    {
+        self.negative
+    }
+
+    pub fn refresh(&self) -> Ttl
+        ensures { λ r. ⌜ r .0 ≡ zoneOf (now (self .entry)) .refresh ⌝ }
+    {
+        self.refresh
+    }
+
+    pub fn expire(&self) -> Ttl
+        ensures { λ r. ⌜ r .0 ≡ zoneOf (now (self .entry)) .expire ⌝ }
+    {
+        self.expire
     }
 
     pub fn sets(&self) -> &[RecordSet]
