@@ -1,5 +1,7 @@
 // Counts what the service does, for a tool that counts instructions: `lookup SETS N` loads a zone of that many sets and asks
 // it N questions.
+#![tactic(auto)]
+
 mod load;
 mod questions;
 

@@ -7,7 +7,8 @@ use Rattle.std.specs.List.{slice_get}
 use Rattle.std.proofs.lemmas.List.{get_or-map}
 use Rattle.std.proofs.lemmas.Option.{slice_get-get_or, slice_get_past}
 use Rattle.std.proofs.lemmas.Bool.Decides.{same_from_decides}
-use Rattle.meaning.specs.Says.{same, Empty}
+use Rattle.meaning.specs.Says.{same}
+use Rattle.meaning.specs.Speech.{Empty}
 use Rattle.meaning.proofs.Rules.{same_so, so_same}
 use Rattle.protocol.specs.World.{Entry, is_key}
 use Rattle.machine.specs.Store.{place_of, one_a_key}

@@ -2,7 +2,7 @@
 use Rattle.std.specs.Prelude.{ℕ, List, [], map, vec_items}
 use Rattle.names.specs.Names.{labels}
 use Rattle.records.specs.Contents.{bytes_of, content_of}
-use Rattle.meaning.specs.Says as says
+use Rattle.meaning.specs.Speech as says
 use Rattle.protocol.specs.Words as words
 use Rattle.protocol.specs.World.{Rules, rules_of}
 use Rattle.protocol.specs.World as world

@@ -1,4 +1,6 @@
 // What a resolver remembers: at most 1,024 words of zones, each found by its key.
+#![tactic(auto)]
+
 mod entry;
 mod index;
 mod store;

@@ -1,4 +1,6 @@
 // A line of text as owners and players write it: what is read of it, its words and its numbers.
+#![tactic(auto)]
+
 ghost use Rattle.std.specs.Prelude.{◌≡◌, ◌≤◌, [], ◌∷◌, length, MatchOption};
 ghost use Rattle.lines.specs.Classes.{member, words_left};
 ghost use Rattle.lines.specs.Lines.{read_part, run, words, with_digit, number_in, LineLaws};

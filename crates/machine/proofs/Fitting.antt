@@ -7,7 +7,8 @@ use Rattle.names.specs.Order.{within}
 use Rattle.names.proofs.Within.{within_laws, within_level, within_itself}
 use Rattle.std.proofs.lemmas.Bool.{cond-true, cond-false, and_parts, and_from, not_from_true, not_from_false, eqb-true, eq-eqb, ne_eqb, lt-leb, leb-true, cases_lt}
 use Rattle.meaning.specs.Model.{delegates, aliases, plain, fits, Delegation, Content, Addresses, Texts, Others, AliasOf, Delegated, Set, Zone}
-use Rattle.meaning.specs.Says.{Speaker, ByDelegation, BySet, ByAlias, NoData, NoName, Over, Said, Found, AliasTo, Referred, Empty, Absent, target_of, delegation_of, said_by, time_of, says}
+use Rattle.meaning.specs.Says.{Speaker, ByDelegation, BySet, ByAlias, NoData, NoName, Over, time_of, says}
+use Rattle.meaning.specs.Speech.{Said, Found, AliasTo, Referred, Empty, Absent, target_of, delegation_of, said_by}
 use Rattle.meaning.proofs.Saying.{says_laws}
 use Rattle.protocol.specs.Words.{Name, Word, word_by, tells}
 use Rattle.protocol.specs.World.{Query}

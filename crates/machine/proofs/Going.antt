@@ -6,7 +6,8 @@ use Rattle.std.proofs.lemmas.Bool.{cond-true, cond-false, and_parts, and_from, l
 use Rattle.names.specs.Order.{same_label}
 use Rattle.names.proofs.Within.{label_same}
 use Rattle.meaning.specs.Model.{Delegation, Zone}
-use Rattle.meaning.specs.Says.{same, Said, Found, AliasTo, Referred, Empty, Absent}
+use Rattle.meaning.specs.Says.{same}
+use Rattle.meaning.specs.Speech.{Said, Found, AliasTo, Referred, Empty, Absent}
 use Rattle.meaning.proofs.Rules.{same_so, so_same}
 use Rattle.protocol.specs.Lists.{first, kept}
 use Rattle.protocol.specs.Words.{Name, Server, Word, Outcome, Next, Ends, Goes, next, tells}

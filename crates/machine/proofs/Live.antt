@@ -4,7 +4,7 @@ use mathlib.Core.List.Memᴰ
 use mathlib.Core.List.{Memᴰ}
 use Rattle.std.proofs.lemmas.Bool.{cond-true, cond-false, lt-leb, leb-true}
 use Rattle.meaning.specs.Model.{Delegation}
-use Rattle.meaning.specs.Says.{Referred}
+use Rattle.meaning.specs.Speech.{Referred}
 use Rattle.protocol.specs.Lists.{first, kept}
 use Rattle.protocol.specs.Words.{Name, Server, Word, Outcome, Next, Ends, Goes, next}
 use Rattle.protocol.specs.World.{Rules, Version, Entry, World, Event, Tick, world}

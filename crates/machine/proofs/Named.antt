@@ -4,7 +4,7 @@ use mathlib.Core.List.{Memᴰ}
 use Rattle.names.specs.Order.{within}
 use Rattle.names.proofs.Within.{within_laws}
 use Rattle.meaning.specs.Model.{Delegation}
-use Rattle.meaning.specs.Says.{Said, Found, AliasTo, Referred, Empty, Absent}
+use Rattle.meaning.specs.Speech.{Said, Found, AliasTo, Referred, Empty, Absent}
 use Rattle.protocol.specs.Words.{Name, Server, Word, tells, Outcome, Next, Ends, Goes, next}
 use Rattle.protocol.specs.World.{Rules, Entry, World, counts, may_ask}
 use Rattle.protocol.specs.Walks.{End, Shows, LacksAt, TooLong, Walk, walk, remembered, entry_said, shown}

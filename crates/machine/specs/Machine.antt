@@ -5,7 +5,8 @@ use Rattle.names.specs.declared.fault.Fault.{Fault}
 use Rattle.names.specs.declared.fault.Fault.TheVariants.{Malformed, BadData, Misplaced, Conflict, TooMuch, NotPending, WrongApex}
 use Rattle.names.specs.Order.{within}
 use Rattle.meaning.specs.Model.{delegates, aliases, fits, Delegation, Content}
-use Rattle.meaning.specs.Says.{same, Said, Found, AliasTo, Referred, Empty, Absent}
+use Rattle.meaning.specs.Says.{same}
+use Rattle.meaning.specs.Speech.{Said, Found, AliasTo, Referred, Empty, Absent}
 use Rattle.protocol.specs.Lists.{first, kept, any}
 use Rattle.protocol.specs.Words.{Name, Server, Word, Outcome}
 use Rattle.protocol.specs.World.{Rules, Query, Response, Entry, counts, is_key, entry_for, query_for}

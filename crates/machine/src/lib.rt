@@ -1,4 +1,6 @@
 // The resolver as a machine, and the proof that it is the resolver of the protocol. No code, only theorems.
+#![tactic(auto)]
+
 ghost use Rattle.machine.specs.Live.{MachineLive};
 ghost use Rattle.machine.specs.Refine.{MachineRefines};
 ghost use Rattle.machine.specs.Store.{StoreLaws};

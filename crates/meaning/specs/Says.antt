@@ -2,7 +2,7 @@
 use Rattle.std.specs.Prelude.{◌≡◌, ℕ, ◌<◌, ◌≤◌, Bool, true, false, cond, ◌&&◌, ◌||◌, List, [], ◌∷◌, length, Some, None, Option, ◌==◌, nat_le, nat_lt}
 use mathlib.Core.List.{Memᴰ}
 use Rattle.names.specs.Order.{same_label, within}
-use Rattle.meaning.specs.Model.{delegates, aliases, Delegation, Content, Addresses, Texts, Others, AliasOf, Delegated, Set, Zone}
+use Rattle.meaning.specs.Model.{delegates, aliases, Content, Set, Zone}
 
 -- what spoke; what it says, and for how long that may be remembered, follow from it
 pub data Speaker : Type 0 where
@@ -88,15 +88,12 @@ abbrev pub or_else : (Set → Speaker) → Option Set → Speaker → Speaker
 or_else by None next = next
 or_else by (Some s) next = by s
 
--- what sets say of a name that no delegation is over
-abbrev pub undelegated : List (List ℕ) → ℕ → List Set → Speaker
-undelegated q k ss =
-    or_else BySet (find (is_exactly q k) ss)
-    (or_else ByAlias (find (is_alias_at q) ss)
-    (cond (any_under q ss) NoData NoName))
-
 unfoldable pub speaker : Zone → List (List ℕ) → ℕ → Speaker
-speaker z q k = or_else ByDelegation (highest (is_over z.apex q) z.sets) (undelegated q k z.sets)
+speaker z q k =
+    or_else ByDelegation (highest (is_over z.apex q) z.sets)
+    (or_else BySet (find (is_exactly q k) z.sets)
+    (or_else ByAlias (find (is_alias_at q) z.sets)
+    (cond (any_under q z.sets) NoData NoName)))
 
 -- a zone speaks of the names within its apex
 unfoldable pub says : Zone → List (List ℕ) → ℕ → Option Speaker
@@ -120,32 +117,17 @@ pub record SaysMeans : Type 0 where
 
 -- ---- what is said, and for how long
 
--- the name that an alias gives, and what a delegation says; by `fits` an alias's data are such a name, a delegation's are such
-abbrev pub target_of : Content → List (List ℕ)
-target_of (AliasOf n) = n
-target_of (Addresses ps) = []
-target_of (Texts ps) = []
-target_of (Others ps) = []
-target_of (Delegated d) = []
-
-abbrev pub delegation_of : Content → Delegation
-delegation_of (Delegated d) = d
-delegation_of (AliasOf n) = record { servers = [] }
-delegation_of (Addresses ps) = record { servers = [] }
-delegation_of (Texts ps) = record { servers = [] }
-delegation_of (Others ps) = record { servers = [] }
-
 pub data Said : Type 0 where
   Found : (content : Content) → Said
-  AliasTo : (name : List (List ℕ)) → Said
-  Referred : (name : List (List ℕ)) → (to : Delegation) → Said
+  AliasTo : (content : Content) → Said
+  Referred : (name : List (List ℕ)) → (content : Content) → Said
   Empty : Said
   Absent : Said
 
 abbrev pub said_by : Speaker → Said
 said_by (BySet s) = Found s.content
-said_by (ByAlias s) = AliasTo (target_of s.content)
-said_by (ByDelegation s) = Referred s.name (delegation_of s.content)
+said_by (ByAlias s) = AliasTo s.content
+said_by (ByDelegation s) = Referred s.name s.content
 said_by NoData = Empty
 said_by NoName = Absent
 

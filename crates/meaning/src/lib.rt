@@ -1,4 +1,6 @@
 // What a zone says of a name and a kind: the rules, the function that follows them, and its laws. No code, only theorems.
+#![tactic(auto)]
+
 ghost use Rattle.meaning.specs.Cases.{CasesHold};
 ghost use Rattle.meaning.specs.Laws.{SaysLaws};
 ghost use Rattle.meaning.specs.Says.{SaysMeans};

@@ -1,11 +1,12 @@
 -- The order of names: laws, and the step of the loop that finds it.
 use Rattle.std.proofs.Common.{◌≡◌, ℕ, ◌+◌, ◌-◌, ◌<◌, ◌≤◌, min, max, Bool, true, false, ◌&&◌, ◌⊎◌, List, [], ◌∷◌, ◌++◌, length, get_or, drop, Ordering, Less, Equal, Greater, sym, refl, ap, ◌∙◌, subst, inl, inr, ⊎_elim, true≢false, arith, length-drop}
 use Rattle.std.specs.Cmp.{IsTotalOrder, nat_cmp_total, ranks}
-use Rattle.std.specs.Cmp.Lexicographic.{slice_cmp, lexical, lists_total}
+use Rattle.std.specs.Cmp.Lexicographic.{slice_cmp, lists_total}
 use Rattle.std.specs.Ordering.{is_le, is_lt, is_gt, is_ne, ordering_reverse, ordering_then, MatchOrdering, nat_cmp}
 use Rattle.std.proofs.lemmas.List.{drop_at, drop_more, drop_all}
 use Rattle.std.proofs.lemmas.Bool.{and_parts, and_from, cases_lt}
 use Rattle.names.specs.Order.{same_label, label_order, within, order, NotAfter, OrderLaws}
+use Rattle.names.specs.Comparing.{names_total}
 use Rattle.names.proofs.Within.{same_label_lem, within_front}
 
 -- ---- for any total order
@@ -99,7 +100,7 @@ order_above_first q n h =
 
 -- l and m are first labels, m between l and l; then m is l
 first_between : (l m : List ℕ) (r s t : Ordering) → label_order l m ≡ r → is_le (ordering_then r s) ≡ true → is_le (ordering_then (label_order m l) t) ≡ true → r ≡ Equal
-first_between l m Less s t e h k = absurd (true≢false (sym (ap (λ r. is_le (ordering_then r t)) (sym ((lexical nat_cmp_total).antisymm m l ∙ ap ordering_reverse e)) ∙ k)))
+first_between l m Less s t e h k = absurd (true≢false (sym (ap (λ r. is_le (ordering_then r t)) (sym ((lists_total nat_cmp_total).antisymm m l ∙ ap ordering_reverse e)) ∙ k)))
 first_between l m Equal s t e h k = refl
 first_between l m Greater s t e h k = absurd (true≢false (sym h))
 
@@ -114,7 +115,7 @@ order_between (l ∷ q) (m ∷ ms) (p ∷ ps) h k w =
     let k' : is_le (ordering_then (label_order m l) (order ms ps)) ≡ true = subst (λ x. is_le (ordering_then (label_order m x) (order ms ps)) ≡ true) e k in
     let f : label_order l m ≡ Equal = first_between l m (label_order l m) (order q ms) (order ms ps) refl h k' in
     let g : l ≡ m = labels_equal l m f in
-    let b : label_order m l ≡ Equal = (lexical nat_cmp_total).antisymm m l ∙ ap ordering_reverse f in
+    let b : label_order m l ≡ Equal = (lists_total nat_cmp_total).antisymm m l ∙ ap ordering_reverse f in
     and_from (same_label l m) (within q ms) (subst (λ x. same_label l x ≡ true) (e ∙ g) a.0)
     (order_between q ms ps (ap (λ r. is_le (ordering_then r (order q ms))) (sym f) ∙ h) (ap (λ r. is_le (ordering_then r (order ms ps))) (sym b) ∙ k') a.1)
 
@@ -174,8 +175,9 @@ less_each i n m Equal p q h = omega arith
 less_each i n m Greater p q h = omega arith
 
 -- d is where the comparing began, and x and y are the numbers of labels, counted as at least that
-pub order_ends : (a b : List (List ℕ)) (d i n m x y : ℕ) (r : Ordering) → n ≡ length a → m ≡ length b → i ≡ max d (min n m) → x ≡ max n d → y ≡ max m d → MatchOrdering r (x < y) (x ≡ y) (y < x) → r ≡ order (drop i a) (drop i b)
-order_ends a b d i n m x y r p q at e f h =
+pub order_ends : (a b : List (List ℕ)) (d i n m x y : ℕ) (r : Ordering) → n ≡ length a → m ≡ length b → i ≡ max d (min n m) → x ≡ max n d → y ≡ max m d → r ≡ nat_cmp x y → r ≡ order (drop i a) (drop i b)
+order_ends a b d i n m x y r p q at e f c =
+    let h : MatchOrdering r (x < y) (x ≡ y) (y < x) = subst (λ s. MatchOrdering s (x < y) (x ≡ y) (y < x)) (sym c) (ranks x y) in
     let g = length-drop i a in
     let k = length-drop i b in
     ends_by (drop i a) (drop i b) (x - i) (y - i) r (omega arith) (omega arith) one_gone (less_each i x y r (omega arith) (omega arith) h)
@@ -201,16 +203,10 @@ order_below a x y h k =
 -- ---- as an order of keys
 
 pub order_flip : (a b : List (List ℕ)) → order a b ≡ ordering_reverse (order b a)
-unfolding order
-order_flip = (lexical (lists_total nat_cmp_total)).antisymm
+order_flip = names_total.antisymm
 
 pub order_trans : (a b c : List (List ℕ)) → order a b ≡ Less → order b c ≡ Less → order a c ≡ Less
-unfolding order
-order_trans = (lexical (lists_total nat_cmp_total)).trans
+order_trans = names_total.trans
 
 pub order_alike : (a b c : List (List ℕ)) → order a b ≡ Equal → order a c ≡ order b c
-unfolding order
-order_alike = (lexical (lists_total nat_cmp_total)).congr
-
-abbrev pub names_total : IsTotalOrder (λ (a b : List (List ℕ)) (r : Ordering). r ≡ order a b)
-names_total = record { cmp = order; says = λ a b r h. h; flip = order_flip; trans = order_trans; alike = order_alike }
+order_alike = names_total.congr

@@ -1,7 +1,7 @@
 -- When one name lies within another: laws, and the step of the loop that finds out.
-use Rattle.std.proofs.Common.{◌≡◌, ℕ, ◌+◌, ◌<◌, ◌≤◌, Bool, true, false, ◌&&◌, ◌⊎◌, List, [], ◌∷◌, ◌++◌, length, get_or, drop, sym, refl, ap, ◌∙◌, inl, inr, ⊎_elim, true≢false, arith}
+use Rattle.std.proofs.Common.{◌≡◌, ℕ, nat_eq, ◌+◌, ◌<◌, ◌≤◌, Bool, true, false, ◌&&◌, ◌⊎◌, List, [], ◌∷◌, ◌++◌, length, get_or, drop, sym, refl, ap, ◌∙◌, inl, inr, ⊎_elim, true≢false, arith}
 use Rattle.std.specs.Cmp.{nat_eq_equiv}
-use Rattle.std.specs.Cmp.Lexicographic.{bytes_decides, lists_equiv}
+use Rattle.std.specs.Cmp.Lexicographic.{pointwise, bytes_decides, lists_equiv, nat_list_eq_equiv}
 use Rattle.std.proofs.lemmas.List.{drop_more, drop_all}
 use Rattle.std.proofs.lemmas.Bool.{and_parts, and_from}
 use Rattle.names.specs.Order.{same_label, within, WithinLaws}
@@ -93,3 +93,12 @@ within_level (l ∷ q) [] h e = absurd (omega arith)
 within_level (l ∷ q) (m ∷ n) h e =
     let p = and_parts (same_label l m) (within q n) h in
     λ i. same_label_lem l m p.0 i ∷ within_level q n p.1 (omega arith) i
+
+-- ---- as equality of names
+
+pub told_same : (a b : List (List ℕ)) → length a ≡ length b → within b a ≡ pointwise (pointwise nat_eq) a b
+unfolding within
+told_same [] [] e = refl
+told_same [] (m ∷ b) e = absurd (omega arith)
+told_same (l ∷ a) [] e = absurd (omega arith)
+told_same (l ∷ a) (m ∷ b) e = λ i. nat_list_eq_equiv.symm m l i && told_same a b (omega arith) i

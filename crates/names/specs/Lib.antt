@@ -3,6 +3,7 @@ pub mod Labels
 pub mod Layout
 pub mod Names
 pub mod Order
+pub mod Comparing
 pub mod Fronts
 pub mod Reading
 pub mod Wire

@@ -1,18 +1,17 @@
 -- When one name lies within another, and the order of names. Assumes nothing.
-use Rattle.std.specs.Prelude.{◌≡◌, ℕ, Bool, true, false, ◌&&◌, ◌⊎◌, List, [], ◌∷◌, ◌++◌}
+use Rattle.std.specs.Prelude.{◌≡◌, ℕ, nat_eq, Bool, true, false, ◌&&◌, ◌⊎◌, List, [], ◌∷◌, ◌++◌}
 use Rattle.std.specs.declared.cmp.Ordering.TheVariants.{Equal}
 use Rattle.std.specs.declared.cmp.Ordering.{Ordering}
-use Rattle.std.specs.Cmp.{nat_cmp_total, nat_eq_equiv}
-use Rattle.std.specs.Cmp.Lexicographic.{each, slice_cmp}
+use Rattle.std.specs.Cmp.Lexicographic.{pointwise, slice_cmp}
 use Rattle.std.specs.Ordering.{is_le, nat_cmp}
 
 -- two labels byte by byte
 abbrev pub same_label : List ℕ → List ℕ → Bool
-same_label = each nat_eq_equiv
+same_label = pointwise nat_eq
 
 -- two labels by their bytes as unsigned numbers; a front of the other comes first
 abbrev pub label_order : List ℕ → List ℕ → Ordering
-label_order = (slice_cmp nat_cmp)
+label_order = slice_cmp nat_cmp
 
 -- the first name's labels are the first labels of the second, which so is at or below it
 unfoldable pub within : List (List ℕ) → List (List ℕ) → Bool
@@ -22,7 +21,7 @@ within (l ∷ ls) (m ∷ ms) = same_label l m && within ls ms
 
 -- two names label by label, from the root down; a front of the other comes first
 unfoldable pub order : List (List ℕ) → List (List ℕ) → Ordering
-order = (slice_cmp (slice_cmp nat_cmp))
+order = slice_cmp (slice_cmp nat_cmp)
 
 -- at or before
 abbrev pub NotAfter : List (List ℕ) → List (List ℕ) → Type 0

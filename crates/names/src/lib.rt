@@ -1,4 +1,6 @@
 // Domain names: their limits, their order, the written form and the wire form, and the faults of the whole service.
+#![tactic(auto)]
+
 mod fault;
 mod name;
 

@@ -1,5 +1,7 @@
 // Runs a table of names, a case to a line, and prints what comes of each: `read TEXT`, `whole TEXT`, `below APEX TEXT`,
 // `wire HEX` and `order NAME NAME`.
+#![tactic(auto)]
+
 use lines::Words;
 use names::{Fault, Name, Reader};
 use std::alloc::Global;

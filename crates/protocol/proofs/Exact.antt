@@ -5,7 +5,8 @@ use mathlib.Core.List.{Memᴰ}
 use Rattle.std.proofs.lemmas.Bool.{cond-true, cond-false, le-leb, lt-leb, le-ltb, and_from, and_left}
 use Rattle.names.specs.Order.{within}
 use Rattle.meaning.specs.Model.{Content, Texts, Set, Zone}
-use Rattle.meaning.specs.Says.{same, find, highest, any_under, speaker, says, Said, Found}
+use Rattle.meaning.specs.Says.{same, find, highest, any_under, speaker, says}
+use Rattle.meaning.specs.Speech.{Said, Found}
 use Rattle.meaning.proofs.Rules.{so_same}
 use Rattle.protocol.specs.Lists.{first, kept, any}
 use Rattle.protocol.specs.Words.{Name, Server, Word, tells, Told, Ends, next}

@@ -5,7 +5,8 @@ use Rattle.std.proofs.lemmas.Bool.{cond-true, cond-false, and_parts, not-true, l
 use Rattle.names.specs.Order.{same_label, within}
 use Rattle.names.proofs.Within.{same_label_lem}
 use Rattle.meaning.specs.Model.{Delegation}
-use Rattle.meaning.specs.Says.{same, Said, Found, AliasTo, Referred, Empty, Absent}
+use Rattle.meaning.specs.Says.{same}
+use Rattle.meaning.specs.Speech.{Said, Found, AliasTo, Referred, Empty, Absent}
 use Rattle.meaning.proofs.Rules.{same_so}
 use Rattle.protocol.specs.Words.{Name, Server, Word}
 use Rattle.protocol.specs.World.{Rules, Query, Response, Entry, World, Tick, Asks, Hears, with_query, is_server, drawn, counts, names_server, knows, may_ask, may_draw, ask, matches, matching, closed, remember, hear, query_for, step}

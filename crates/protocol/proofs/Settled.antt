@@ -4,7 +4,8 @@ use mathlib.Core.List.Memᴰ
 use mathlib.Core.List.{Memᴰ}
 use Rattle.std.proofs.lemmas.Bool.{and_parts, leb-true, eqb-true}
 use Rattle.meaning.specs.Model.{Zone}
-use Rattle.meaning.specs.Says.{same, Said}
+use Rattle.meaning.specs.Says.{same}
+use Rattle.meaning.specs.Speech.{Said}
 use Rattle.meaning.proofs.Rules.{same_so}
 use Rattle.protocol.specs.Words.{Name, Word, tells, Next, Ends, Goes, next}
 use Rattle.protocol.specs.World.{Rules, Entry, World, current, lower, until, counts, is_key}

@@ -2,7 +2,8 @@
 use Rattle.std.proofs.Common.{◌≡◌, ℕ, ◌<◌, true, ◌⊎◌, List, [], length, Some, None, Option, sym, refl, ap, ◌∙◌, subst, inl, inr, arith}
 use Rattle.names.specs.Order.{within}
 use Rattle.meaning.specs.Model.{Delegation, Set, Zone}
-use Rattle.meaning.specs.Says.{Speaker, ByDelegation, BySet, ByAlias, NoData, NoName, Said, Found, AliasTo, Referred, Empty, Absent, said_by, time_of, says}
+use Rattle.meaning.specs.Says.{Speaker, ByDelegation, BySet, ByAlias, NoData, NoName, time_of, says}
+use Rattle.meaning.specs.Speech.{Said, Found, AliasTo, Referred, Empty, Absent, said_by}
 use Rattle.meaning.proofs.Saying.{says_laws}
 use Rattle.protocol.specs.Words.{Name, Word, word_by, tells, Next, Ends, Goes, next, WordLaws}
 

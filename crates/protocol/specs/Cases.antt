@@ -2,7 +2,7 @@
 use Rattle.std.specs.Prelude.{◌≡◌, ℕ, Bool, true, false, List, [], ◌∷◌, ◌++◌, map, length, Some, None, codes, Option}
 use Rattle.std.specs.List.{AllByRecursion as All}
 use Rattle.meaning.specs.Model.{Content, Addresses, Zone}
-use Rattle.meaning.specs.Says.{Found}
+use Rattle.meaning.specs.Speech.{Found}
 use Rattle.meaning.specs.Cases as one-zone
 use Rattle.meaning.specs.Cases.{upperton, server, address, alias, zone, rescue, root, a_name, ring}
 use Rattle.protocol.specs.Words.{Name, Word, Told}

@@ -3,7 +3,7 @@ use Rattle.std.specs.Prelude.{◌≡◌, ℕ, ◌+◌, ◌*◌, ◌<◌, ◌≤�
 use mathlib.Core.List.{Memᴰ}
 use Rattle.names.specs.Order.{within}
 use Rattle.meaning.specs.Model.{Delegation, Content, Zone}
-use Rattle.meaning.specs.Says.{Found, AliasTo, Referred}
+use Rattle.meaning.specs.Speech.{Found, AliasTo, Referred}
 use Rattle.protocol.specs.Words.{Name, Server, Word, Told}
 use Rattle.protocol.specs.World.{Rules, rules_of, Version, Offer, Copy, Query, Response, Entry, World, Event, Tick, Publishes, OffersOwn, OffersCopy, Takes, Asks, Responds, Hears, Forgets, lower, copy_at, unexpired, drawn, counts, with_query, query_for, step, world, Brought}
 use Rattle.protocol.specs.History.{in_force, longest, rested, others_run_out, oldest, SaidSince, OwnedSince}

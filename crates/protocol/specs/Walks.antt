@@ -1,7 +1,7 @@
 -- Walks from the root, by any source of words: what a question means, and what is shown. Assumes nothing.
 use Rattle.std.specs.Prelude.{◌≡◌, ℕ, zero, suc, ◌-◌, Bool, cond, ◌&&◌, List, [], ◌∷◌, Some, None, Option}
 use Rattle.meaning.specs.Model.{Zone}
-use Rattle.meaning.specs.Says.{Said}
+use Rattle.meaning.specs.Speech.{Said}
 use Rattle.protocol.specs.Lists.{first}
 use Rattle.protocol.specs.Words.{Name, Word, tells, Outcome, Next, Ends, Goes, next}
 use Rattle.protocol.specs.World.{Rules, Entry, World, current, lower, until, counts, is_key}

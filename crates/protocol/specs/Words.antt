@@ -2,7 +2,8 @@
 use Rattle.std.specs.Prelude.{◌≡◌, ℕ, ◌<◌, true, ◌⊎◌, List, [], length, Some, None, Option}
 use Rattle.names.specs.Order.{within}
 use Rattle.meaning.specs.Model.{Delegation, Content, Zone}
-use Rattle.meaning.specs.Says.{Speaker, Said, Found, AliasTo, Referred, Empty, Absent, said_by, time_of, says}
+use Rattle.meaning.specs.Says.{Speaker, time_of, says}
+use Rattle.meaning.specs.Speech.{Said, Found, AliasTo, Referred, Empty, Absent, said_by}
 
 -- a name is its labels from the root down
 abbrev pub Name : Type 0

@@ -3,7 +3,8 @@ use Rattle.std.specs.Prelude.{◌≡◌, ℕ, ◌+◌, Bool, true, false, cond, 
 use mathlib.Core.List.{Memᴰ}
 use Rattle.names.specs.Order.{same_label, within}
 use Rattle.meaning.specs.Model.{Delegation, Zone, newer}
-use Rattle.meaning.specs.Says.{same, Said, Found, AliasTo, Referred, Empty, Absent}
+use Rattle.meaning.specs.Says.{same}
+use Rattle.meaning.specs.Speech.{Said, Found, AliasTo, Referred, Empty, Absent}
 use Rattle.protocol.specs.Lists.{first, kept, any}
 use Rattle.protocol.specs.Words.{Name, Server, Word, tells}
 

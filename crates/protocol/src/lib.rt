@@ -1,4 +1,6 @@
 // The whole service as one model: owners, copies, a resolver and a net, with the proof of its one sentence. No code, only theorems.
+#![tactic(auto)]
+
 ghost use Rattle.protocol.specs.Cases.{CasesHold};
 ghost use Rattle.protocol.specs.Promise.{HistoryTrue, OneVersion, BoundExact, HearLaws, AskLaw, WalkLaws, Main};
 ghost use Rattle.protocol.specs.Words.{WordLaws};

@@ -1,4 +1,6 @@
 // What a resolver keeps of the questions under way: how often each word was asked for, and the queries that are pending.
+#![tactic(auto)]
+
 mod naming;
 mod query;
 mod question;

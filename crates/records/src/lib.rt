@@ -1,4 +1,6 @@
 // Record sets: kinds, times, serials, addresses and data, each within its limits.
+#![tactic(auto)]
+
 mod data;
 mod set;
 mod types;

@@ -1,4 +1,6 @@
 // The resolver: questions are walked by what is remembered, and what is lacking is asked for.
+#![tactic(auto)]
+
 mod answer;
 mod resolver;
 

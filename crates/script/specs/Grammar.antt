@@ -1,7 +1,6 @@
 -- What a line of a script means. Assumes nothing.
-use Rattle.std.specs.Prelude.{◌≡◌, ℕ, Bool, cond, ◌&&◌, List, [], ◌∷◌, length, Some, None, Ok, Err, codes, Option, Result, nat_le}
-use Rattle.std.specs.Cmp.{nat_eq_equiv}
-use Rattle.std.specs.Cmp.Lexicographic.{each}
+use Rattle.std.specs.Prelude.{◌≡◌, ℕ, nat_eq, Bool, cond, ◌&&◌, List, [], ◌∷◌, length, Some, None, Ok, Err, codes, Option, Result, nat_le}
+use Rattle.std.specs.Cmp.Lexicographic.{pointwise}
 use Rattle.names.specs.declared.fault.Fault.{Fault}
 use Rattle.names.specs.declared.fault.Fault.TheVariants.{Malformed, BadName}
 use Rattle.names.specs.Reading.{read_below}
@@ -17,7 +16,7 @@ pub data Meant : Type 0 where
   Tick : Meant
 
 abbrev pub same_word : List ℕ → List ℕ → Bool
-same_word = each nat_eq_equiv
+same_word = pointwise nat_eq
 
 -- a number from 1 to the most
 abbrev pub within : ℕ → Option ℕ → Option ℕ

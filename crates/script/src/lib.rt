@@ -1,4 +1,6 @@
 // One line of a script for `valley`: `zone FILE`, `copy SERVER NAME`, `ask ASKER NAME KIND`, `bring N` or `tick`.
+#![tactic(auto)]
+
 ghost use Rattle.std.specs.Prelude.{◌≡◌};
 ghost use Rattle.lines.specs.Classes.{words_left};
 ghost use Rattle.names.specs.Names.{given};

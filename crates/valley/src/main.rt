@@ -1,4 +1,6 @@
 // Plays a script from standard input, up to its end or its first faulty line.
+#![tactic(auto)]
+
 mod clock;
 mod sample;
 mod walk;

@@ -2,7 +2,7 @@
 use Rattle.std.proofs.Common.{◌≡◌, ℕ, zero, suc, ◌+◌, ◌-◌, ◌<◌, cond, ltb, List, [], ◌∷◌, ◌++◌, map, length, Some, None, Option, sym, refl, ap, ◌∙◌, subst, append_assoc, append-nil, arith, length-append}
 use mathlib.Core.List.{map-append}
 use Rattle.std.specs.List.{slice_get}
-use Rattle.meaning.specs.Says.{Said, Found, AliasTo, Referred, Empty, Absent}
+use Rattle.meaning.specs.Speech.{Said, Found, AliasTo, Referred, Empty, Absent}
 use Rattle.protocol.specs.Words.{Name, Server, Next, Ends, Goes, next}
 use Rattle.protocol.specs.World.{Rules, rules_of, Entry}
 use Rattle.protocol.specs.Walks.{End, Shows, LacksAt, TooLong, remembered, left, Walk, walk, entry_said}

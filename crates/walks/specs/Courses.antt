@@ -1,6 +1,6 @@
 -- A walk as the code goes it: word by word, with what it has gathered on the way. Assumes nothing.
 use Rattle.std.specs.Prelude.{ℕ, zero, suc, Bool, cond, List, [], ◌∷◌, Some, None, Option}
-use Rattle.meaning.specs.Says.{Said}
+use Rattle.meaning.specs.Speech.{Said}
 use Rattle.protocol.specs.Words.{Name, Server, Next, Ends, Goes, next}
 use Rattle.protocol.specs.World.{Rules, Entry, lower}
 use Rattle.protocol.specs.Walks.{End, Shows, LacksAt, TooLong, Walk, walk, remembered, entry_said, shown_by, left, least_left}

@@ -8,7 +8,8 @@ use Rattle.names.specs.Order.{order, within, NotAfter}
 use Rattle.names.proofs.Order.{order_laws}
 use Rattle.names.proofs.Within.{within_itself, within_level}
 use Rattle.meaning.specs.Model.{aliases, AliasOf, Set}
-use Rattle.meaning.specs.Says.{Speaker, BySet, ByAlias, NoData, NoName, same, is_exactly, is_alias_at, find, any_under, or_else, undelegated}
+use Rattle.meaning.specs.Says.{Speaker, BySet, ByAlias, NoData, NoName, same, is_exactly, is_alias_at, find, any_under, or_else}
+use Rattle.meaning.specs.Speech.{undelegated}
 use Rattle.meaning.proofs.Finding.{Nothing, Found, some, none, finds, Below, one, no_one, looks_below}
 use Rattle.meaning.proofs.Rules.{same_so, so_same}
 use Rattle.zones.specs.Sorted.{is_before, sorted, place, set_at}

@@ -2,7 +2,8 @@
 use Rattle.std.proofs.Common.{◌≡◌, ℕ, Bool, true, false, cond, List, Some, None, Option, ap, ◌∙◌}
 use Rattle.names.specs.Order.{within}
 use Rattle.meaning.specs.Model.{Set, Zone}
-use Rattle.meaning.specs.Says.{Speaker, ByDelegation, is_over, highest, or_else, undelegated, speaker, says}
+use Rattle.meaning.specs.Says.{Speaker, ByDelegation, is_over, highest, or_else, speaker, says}
+use Rattle.meaning.specs.Speech.{undelegated}
 
 module _ (z : Zone) (q : List (List ℕ)) (k : ℕ) where
   pub referred : (s : Set) → Some s ≡ highest (is_over z.apex q) z.sets → ByDelegation s ≡ speaker z q k

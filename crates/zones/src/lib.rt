@@ -1,4 +1,6 @@
 // Zones: made set by set within their limits, and asked by searches that halve.
+#![tactic(auto)]
+
 ghost use Rattle.zones.specs.Sorted.{SortedDistinct};
 
 mod cuts;

@@ -3,12 +3,12 @@ use Rattle.lines.specs.Classes.{member}
 use Rattle.lines.proofs.Runs.{run_more, run_ends, run_all}
 use Rattle.lines.proofs.run_len.Goals as goal
 
-pub returns-then-not-is-of : goal.returns-then-not-is-of
-returns-then-not-is-of c =
-    record { value = run_ends (member c.args.class) c.args.text.now c.loop-i.i (omega arith) (sym c.if-not-is-of.ensures) c.loop-i.invariant; bound = omega arith }
+pub returns-then-not-is_of : goal.returns-then-not-is_of
+returns-then-not-is_of c =
+    record { value = run_ends (member c.args.class) c.args.text.now c.loop-i.i (omega arith) (sym c.if-not-is_of.ensures) c.loop-i.invariant; bound = omega arith }
 
 pub loop-i-preserved : goal.loop-i-preserved
-loop-i-preserved c = run_more (member c.args.class) c.args.text.now c.loop-i.i (omega arith) (sym c.if-not-is-of.ensures) c.loop-i.invariant
+loop-i-preserved c = run_more (member c.args.class) c.args.text.now c.loop-i.i (omega arith) (sym c.if-not-is_of.ensures) c.loop-i.invariant
 
 pub returns : goal.returns
 returns c =

@@ -1,12 +1,12 @@
 // Names compared label by label, from the root down: within, equal, before.
-ghost use Rattle.std.specs.Prelude.{◌≡◌, drop, Some, Decides, slice_index, refl};
+ghost use Rattle.std.specs.Prelude.{◌≡◌, drop, nat_eq, Some, slice_index, refl};
 ghost use Rattle.names.specs.Fronts.{front, front_below};
 ghost use Rattle.names.specs.Names.{labels};
 ghost use Rattle.names.specs.Order.{same_label, label_order, within, order, WithinLaws, OrderLaws};
-ghost use Rattle.std.specs.Cmp.Rules.{comparing};
-ghost use Rattle.std.proofs.Common.{rules, arith};
-ghost use Rattle.std.specs.Cmp as Keys;
-ghost use Rattle.std.specs.Cmp.{partial_order_from_agreeing_total};
+ghost use Rattle.names.specs.Comparing.{names_total, names_ties, names_partial};
+ghost use Rattle.std.specs.Cmp.{partial_equiv_from_equiv, on_equiv, on_po, on_total};
+ghost use Rattle.std.specs.Cmp.Lexicographic.{pointwise, lists_equiv, nat_list_eq_equiv};
+ghost use Rattle.std.specs.Ordering.{on};
 
 use super::Name;
 use std::cmp::Ordering;
@@ -87,9 +87,9 @@ impl Name {
 }
 
 impl PartialEq for Name {
-    ghost equals = { λ x y r. Decides r (labels x ≡ labels y) };
+    ghost eq = { on labels (pointwise (pointwise nat_eq)) };
 
-    ghost laws = { Keys.partial_equiv_from_equiv (first_of (Prim.search (comparing, rules), Prim.grind (arith, Self.row.coded.inj))) };
+    ghost laws = { partial_equiv_from_equiv (on_equiv labels (lists_equiv nat_list_eq_equiv)) };
 
     fn eq(&self, other: &Name) -> bool {
         self.label_count() == other.label_count() && self.is_within(other)
@@ -97,13 +97,13 @@ impl PartialEq for Name {
 }
 
 impl Eq for Name {
-    ghost laws = { first_of (Prim.search (comparing, rules), Prim.grind (arith, Self.row.coded.inj)) };
+    ghost laws = { on_equiv labels (lists_equiv nat_list_eq_equiv) };
 }
 
 impl PartialOrd for Name {
     ghost partial_cmp = { λ x y. Some (order (labels x) (labels y)) };
 
-    ghost laws = { partial_order_from_agreeing_total (λ x y. order (labels x) (labels y)) (first_of (Prim.search (comparing, rules), Prim.grind (arith, Self.row.coded.inj))) (λ _ _. refl) (first_of (Prim.search (comparing, rules), Prim.grind (arith, Self.row.coded.inj))) };
+    ghost laws = { on_po labels names_partial };
 
     fn partial_cmp(&self, other: &Name) -> Option<Ordering> {
         Some(self.cmp(other))
@@ -111,13 +111,13 @@ impl PartialOrd for Name {
 }
 
 impl Ord for Name {
-    ghost cmp = { λ x y. order (labels x) (labels y) };
+    ghost cmp = { on labels order };
 
-    ghost total = { first_of (Prim.search (comparing, rules), Prim.grind (arith, Self.row.coded.inj)) };
+    ghost total = { on_total labels names_total };
 
-    ghost matches_partial_cmp = { first_of (Prim.search (comparing, rules), Prim.grind (arith, Self.row.coded.inj)) };
+    ghost matches_partial_cmp = { λ x y. refl };
 
-    ghost matches_eq = { first_of (Prim.search (comparing, rules), Prim.grind (arith, Self.row.coded.inj)) };
+    ghost matches_eq = { λ x y. names_ties (labels x) (labels y) };
 
     fn cmp(&self, other: &Name) -> Ordering {
         self.compare_below(other, 0)

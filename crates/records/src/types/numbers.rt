@@ -1,10 +1,10 @@
 // Kinds and serials: which there are, and what is asked of them.
-ghost use Rattle.std.specs.Prelude.{◌≡◌, Decides};
+ghost use Rattle.std.specs.Prelude.{◌≡◌, nat_eq};
 ghost use Rattle.meaning.specs.Model.{delegates, aliases, plain, newer};
 ghost use Rattle.records.specs.Numbers.{kind_of, kind_given, serial_of, serial_given};
-ghost use Rattle.std.specs.Cmp.Rules.{comparing};
-ghost use Rattle.std.proofs.Common.{rules};
-ghost use Rattle.std.specs.Cmp as Keys;
+ghost use Rattle.std.specs.Cmp.{partial_equiv_from_equiv};
+ghost use Rattle.std.specs.Cmp.Lexicographic.{pointwise, on_texts_equal};
+ghost use Rattle.std.specs.Ordering.{on};
 
 use super::{Address, Kind, Serial};
 use names::Fault;
@@ -77,9 +77,9 @@ impl Serial {
 }
 
 impl PartialEq for Address {
-    ghost equals = { λ x y r. Decides r (x.0 ≡ y.0) };
+    ghost eq = { on (λ a. a.0) (pointwise nat_eq) };
 
-    ghost laws = { Keys.partial_equiv_from_equiv (Prim.search (comparing, rules)) };
+    ghost laws = { partial_equiv_from_equiv (on_texts_equal (λ a. a.0)) };
 
     fn eq(&self, other: &Address) -> bool {
         self.0 == other.0
@@ -87,5 +87,5 @@ impl PartialEq for Address {
 }
 
 impl Eq for Address {
-    ghost laws = { Prim.search (comparing, rules) };
+    ghost laws = { on_texts_equal (λ a. a.0) };
 }

@@ -13,15 +13,15 @@ loop-low-init c =
     let m = length-map c.args.cuts.now labels in
     (omega arith, omega arith, omega arith)
 
-pub loop-low-preserved-then-is-le : goal.loop-low-preserved-then-is-le
-loop-low-preserved-then-is-le c =
-    let b = below_found (labels c.args.apex.now) (labels c.args.name.now) (labels c.index-cuts-middle.result) c.label-count-depth.result c.compare-below.result true (each_read labels (within (labels c.args.apex.now)) c.args.cuts.now _ c.index-cuts-middle.result (omega arith) c.index-cuts-middle.is c.requires.inside) c.requires.asked c.label-count-depth.ensures c.compare-below.ensures c.if-is-le.ensures in
+pub loop-low-preserved-then-is_le : goal.loop-low-preserved-then-is_le
+loop-low-preserved-then-is_le c =
+    let b = below_found (labels c.args.apex.now) (labels c.args.name.now) (labels c.index-cuts-middle.result) c.label_count-depth.result c.compare_below.result true (each_read labels (within (labels c.args.apex.now)) c.args.cuts.now _ c.index-cuts-middle.result (omega arith) c.index-cuts-middle.is c.requires.inside) c.requires.asked c.label_count-depth.ensures c.compare_below.ensures c.if-is_le.ensures in
     let r = goes_right labels c.args.cuts.now (λ x. is_le (order x (labels c.args.name.now))) (cuts_fall (labels c.args.name.now) (map labels c.args.cuts.now) c.requires.ordered) _ c.index-cuts-middle.result true (omega arith) c.index-cuts-middle.is refl b in
     (r, c.loop-low.invariant.1, c.loop-low.invariant.2)
 
 pub loop-low-preserved : goal.loop-low-preserved
 loop-low-preserved c =
-    let b = below_found (labels c.args.apex.now) (labels c.args.name.now) (labels c.index-cuts-middle.result) c.label-count-depth.result c.compare-below.result false (each_read labels (within (labels c.args.apex.now)) c.args.cuts.now _ c.index-cuts-middle.result (omega arith) c.index-cuts-middle.is c.requires.inside) c.requires.asked c.label-count-depth.ensures c.compare-below.ensures c.if-is-le.ensures in
+    let b = below_found (labels c.args.apex.now) (labels c.args.name.now) (labels c.index-cuts-middle.result) c.label_count-depth.result c.compare_below.result false (each_read labels (within (labels c.args.apex.now)) c.args.cuts.now _ c.index-cuts-middle.result (omega arith) c.index-cuts-middle.is c.requires.inside) c.requires.asked c.label_count-depth.ensures c.compare_below.ensures c.if-is_le.ensures in
     let r = goes_left labels c.args.cuts.now (λ x. is_le (order x (labels c.args.name.now))) _ c.index-cuts-middle.result false (omega arith) c.index-cuts-middle.is refl b in
     let i = c.loop-low.invariant in
     (i.0, r, omega arith)

@@ -13,13 +13,13 @@ returns-then-own-sought c =
     search rules
 
 pub returns-in-Less : goal.returns-in-Less
-returns-in-Less c = before_found (labels c.args.apex.now) (labels c.args.name.now) _ c.args.kind _ (set_of c.args.set.now) Less c.requires.inside c.requires.asked c.label-count.ensures c.name.ensures c.in-Less.ensures
+returns-in-Less c = before_found (labels c.args.apex.now) (labels c.args.name.now) _ c.args.kind _ (set_of c.args.set.now) Less c.requires.inside c.requires.asked c.label_count.ensures c.name.ensures c.in-Less.ensures
 
 pub returns-in-Equal : goal.returns-in-Equal
 returns-in-Equal c =
     kind_less c.number.result c.args.kind
     ∙ ap (λ x. Rattle.std.specs.Ordering.is_lt (Rattle.std.specs.Cmp.rank x c.args.kind)) (c.number.ensures ∙ c.kind.ensures)
-    ∙ before_found (labels c.args.apex.now) (labels c.args.name.now) _ c.args.kind _ (set_of c.args.set.now) Equal c.requires.inside c.requires.asked c.label-count.ensures c.name.ensures c.in-Equal.ensures
+    ∙ before_found (labels c.args.apex.now) (labels c.args.name.now) _ c.args.kind _ (set_of c.args.set.now) Equal c.requires.inside c.requires.asked c.label_count.ensures c.name.ensures c.in-Equal.ensures
 
 pub returns-in-Greater : goal.returns-in-Greater
-returns-in-Greater c = before_found (labels c.args.apex.now) (labels c.args.name.now) _ c.args.kind _ (set_of c.args.set.now) Greater c.requires.inside c.requires.asked c.label-count.ensures c.name.ensures c.in-Greater.ensures
+returns-in-Greater c = before_found (labels c.args.apex.now) (labels c.args.name.now) _ c.args.kind _ (set_of c.args.set.now) Greater c.requires.inside c.requires.asked c.label_count.ensures c.name.ensures c.in-Greater.ensures

@@ -20,21 +20,21 @@ bounds-fronts-middle c =
     let m = fronts_many set_of c.args.sets.now c.args.fronts.now (length (labels c.args.apex.now)) c.requires.fronts in
     omega arith
 
-pub is-before-requires : goal.is-before-requires
-is-before-requires c = record {
+pub is_before-requires : goal.is_before-requires
+is_before-requires c = record {
   inside = each_read set_of (λ s. within (labels c.args.apex.now) s.name) c.args.sets.now _ c.index-sets-middle.result (omega arith) c.index-sets-middle.is c.requires.inside;
   asked = c.requires.asked;
   front = front_at set_of c.args.sets.now c.args.fronts.now (length (labels c.args.apex.now)) _ c.index-sets-middle.result c.requires.fronts (omega arith) c.index-sets-middle.is;
-  fronted = c.front-below-sought.ensures ∙ ap (λ d. front_below d (labels c.args.name.now)) c.label-count.ensures;
+  fronted = c.front_below-sought.ensures ∙ ap (λ d. front_below d (labels c.args.name.now)) c.label_count.ensures;
 }
 
-pub loop-low-preserved-then-is-before : goal.loop-low-preserved-then-is-before
-loop-low-preserved-then-is-before c =
-    let r = goes_right set_of c.args.sets.now (is_before (labels c.args.name.now) c.args.kind) (sets_fall (labels c.args.name.now) c.args.kind (map set_of c.args.sets.now) c.requires.ordered) _ c.index-sets-middle.result true (omega arith) c.index-sets-middle.is refl c.if-is-before.ensures in
+pub loop-low-preserved-then-is_before : goal.loop-low-preserved-then-is_before
+loop-low-preserved-then-is_before c =
+    let r = goes_right set_of c.args.sets.now (is_before (labels c.args.name.now) c.args.kind) (sets_fall (labels c.args.name.now) c.args.kind (map set_of c.args.sets.now) c.requires.ordered) _ c.index-sets-middle.result true (omega arith) c.index-sets-middle.is refl c.if-is_before.ensures in
     (r, c.loop-low.invariant.1, c.loop-low.invariant.2)
 
 pub loop-low-preserved : goal.loop-low-preserved
 loop-low-preserved c =
-    let r = goes_left set_of c.args.sets.now (is_before (labels c.args.name.now) c.args.kind) _ c.index-sets-middle.result false (omega arith) c.index-sets-middle.is refl c.if-is-before.ensures in
+    let r = goes_left set_of c.args.sets.now (is_before (labels c.args.name.now) c.args.kind) _ c.index-sets-middle.result false (omega arith) c.index-sets-middle.is refl c.if-is_before.ensures in
     let i = c.loop-low.invariant in
     (i.0, r, omega arith)

@@ -6,34 +6,34 @@ use Rattle.records.specs.Sets.{set_of}
 use Rattle.zones.proofs.Beside.{of_other, of_below, of_data, of_alias, of_empty}
 use Rattle.zones.proofs.search.reply_of.Goals as goal
 
-pub returns-then-not-is-within : goal.returns-then-not-is-within
-returns-then-not-is-within c =
-    let law = of_other (labels c.args.name.now) c.args.kind (set_of c.args.set.now) (sym (c.if-not-is-within.ensures ∙ ap (within (labels c.args.name.now)) c.name-own.ensures)) in
+pub returns-then-not-is_within : goal.returns-then-not-is_within
+returns-then-not-is_within c =
+    let law = of_other (labels c.args.name.now) c.args.kind (set_of c.args.set.now) (sym (c.if-not-is_within.ensures ∙ ap (within (labels c.args.name.now)) c.name-own.ensures)) in
     search rules
 
-pub returns-then-label-count : goal.returns-then-label-count
-returns-then-label-count c =
+pub returns-then-label_count : goal.returns-then-label_count
+returns-then-label_count c =
     let e = ap length c.name-own.ensures in
-    let law = of_below (labels c.args.name.now) c.args.kind (set_of c.args.set.now) (sym (c.if-not-is-within.ensures ∙ ap (within (labels c.args.name.now)) c.name-own.ensures)) (λ l. omega arith) in
+    let law = of_below (labels c.args.name.now) c.args.kind (set_of c.args.set.now) (sym (c.if-not-is_within.ensures ∙ ap (within (labels c.args.name.now)) c.name-own.ensures)) (λ l. omega arith) in
     search rules
 
 pub returns-then-number-kind : goal.returns-then-number-kind
 returns-then-number-kind c =
     let e = ap length c.name-own.ensures in
-    let k = c.kind-own-kind.ensures in
-    let law = of_data (labels c.args.name.now) c.args.kind (set_of c.args.set.now) (sym (c.if-not-is-within.ensures ∙ ap (within (labels c.args.name.now)) c.name-own.ensures)) (omega arith) (omega arith) in
+    let k = c.kind-own_kind.ensures in
+    let law = of_data (labels c.args.name.now) c.args.kind (set_of c.args.set.now) (sym (c.if-not-is_within.ensures ∙ ap (within (labels c.args.name.now)) c.name-own.ensures)) (omega arith) (omega arith) in
     search rules
 
-pub returns-then-is-alias : goal.returns-then-is-alias
-returns-then-is-alias c =
+pub returns-then-is_alias : goal.returns-then-is_alias
+returns-then-is_alias c =
     let e = ap length c.name-own.ensures in
-    let k = c.kind-own-kind.ensures in
-    let law = of_alias (labels c.args.name.now) c.args.kind (set_of c.args.set.now) (sym (c.if-not-is-within.ensures ∙ ap (within (labels c.args.name.now)) c.name-own.ensures)) (omega arith) (λ f. omega arith) (sym (c.if-is-alias.ensures ∙ ap aliases c.kind-own-kind.ensures)) in
+    let k = c.kind-own_kind.ensures in
+    let law = of_alias (labels c.args.name.now) c.args.kind (set_of c.args.set.now) (sym (c.if-not-is_within.ensures ∙ ap (within (labels c.args.name.now)) c.name-own.ensures)) (omega arith) (λ f. omega arith) (sym (c.if-is_alias.ensures ∙ ap aliases c.kind-own_kind.ensures)) in
     search rules
 
 pub returns : goal.returns
 returns c =
     let e = ap length c.name-own.ensures in
-    let k = c.kind-own-kind.ensures in
-    let law = of_empty (labels c.args.name.now) c.args.kind (set_of c.args.set.now) (sym (c.if-not-is-within.ensures ∙ ap (within (labels c.args.name.now)) c.name-own.ensures)) (omega arith) (λ f. omega arith) (sym (c.if-is-alias.ensures ∙ ap aliases c.kind-own-kind.ensures)) in
+    let k = c.kind-own_kind.ensures in
+    let law = of_empty (labels c.args.name.now) c.args.kind (set_of c.args.set.now) (sym (c.if-not-is_within.ensures ∙ ap (within (labels c.args.name.now)) c.name-own.ensures)) (omega arith) (λ f. omega arith) (sym (c.if-is_alias.ensures ∙ ap aliases c.kind-own_kind.ensures)) in
     search rules

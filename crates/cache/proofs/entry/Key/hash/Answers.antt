@@ -8,5 +8,5 @@ unfolding hash_of
 returns c =
     let self = c.args.self.now in
     let start = c.stir.ensures ∙ ap (stirred 0) c.number.ensures in
-    let apex = c.stir-name-apex.ensures ∙ ap (λ h. stirred_name h (labels self.apex)) start in
-    c.stir-name.ensures ∙ ap (λ h. stirred_name h (labels self.name)) (c.stir-2.ensures ∙ ap (λ h. stirred h 47) apex)
+    let apex = c.stir_name-apex.ensures ∙ ap (λ h. stirred_name h (labels self.apex)) start in
+    c.stir_name.ensures ∙ ap (λ h. stirred_name h (labels self.name)) (c.stir-2.ensures ∙ ap (λ h. stirred h 47) apex)

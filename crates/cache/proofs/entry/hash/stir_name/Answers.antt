@@ -5,13 +5,13 @@ use Rattle.cache.specs.Hashes.{stirred, stirred_all, stirred_name}
 use Rattle.cache.proofs.Stirring.{label_stirred, past_labels, none_left}
 use Rattle.cache.proofs.entry.hash.stir_name.Goals as goal
 
-pub returns-in-default : goal.returns-in-default
-returns-in-default c = sym (past_labels c.loop-depth.hash c.loop-depth.depth (labels c.args.name.now) (sym (ap (option_map (λ x. x.now)) c.in-default.is) ∙ c.label.ensures)) ∙ c.loop-depth.invariant
+pub returns-in_default : goal.returns-in_default
+returns-in_default c = sym (past_labels c.loop-depth.hash c.loop-depth.depth (labels c.args.name.now) (sym (ap (option_map (λ x. x.now)) c.in_default.is) ∙ c.label.ensures)) ∙ c.loop-depth.invariant
 
 pub loop-depth-preserved : goal.loop-depth-preserved
 loop-depth-preserved c =
     let ls = labels c.args.name.now in
-    ap (λ h. stirred_name h (drop (c.loop-depth.depth + 1) ls)) (c.stir-all-hash.ensures ∙ ap (λ h. stirred_all h c.in-Some.label.now) c.stir.ensures)
+    ap (λ h. stirred_name h (drop (c.loop-depth.depth + 1) ls)) (c.stir_all-hash.ensures ∙ ap (λ h. stirred_all h c.in-Some.label.now) c.stir.ensures)
     ∙ label_stirred c.loop-depth.hash c.loop-depth.depth ls c.in-Some.label.now c.in-Some.ensures
     ∙ c.loop-depth.invariant
 

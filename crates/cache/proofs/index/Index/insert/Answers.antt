@@ -5,8 +5,8 @@ use Rattle.cache.specs.Indexes.{hints_of}
 use Rattle.cache.proofs.Hinting.{was_inserted, rising_inserted, hinted_inserted, hinted_new}
 use Rattle.cache.proofs.index.Index.insert.Goals as goal
 
-pub invariant-of-self : goal.invariant-of-self
-invariant-of-self c =
+pub invariant_of-self : goal.invariant_of-self
+invariant_of-self c =
     let xs = hints_of c.args.self.now in
     let n = c.args.self.now.hints.ok.0 in
     let w = c.requires in

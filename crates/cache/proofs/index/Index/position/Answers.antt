@@ -4,4 +4,4 @@ use Rattle.cache.proofs.Hinting.{unhinted}
 use Rattle.cache.proofs.index.Index.position.Goals as goal
 
 pub returns : goal.returns
-returns c = λ h. ap (hinted h c.args.place) (sym c.as-slice-hints.ensures.value) ∙ unhinted c.as-slice-hints.result.now c.args.place (λ k l. c.loop-at.invariant k (let m = c.loop-at-test.false in omega arith)) h
+returns c = λ h. ap (hinted h c.args.place) (sym c.as_slice-hints.ensures.value) ∙ unhinted c.as_slice-hints.result.now c.args.place (λ k l. c.loop-at.invariant k (let m = c.loop-at-test.false in omega arith)) h

@@ -10,8 +10,8 @@ use Rattle.cache.proofs.Covering.{covers_set, covers_push, covers_replaced}
 use Rattle.cache.proofs.Storing.{place_within, one_replaced, one_appended, one_ousted}
 use Rattle.cache.proofs.store.Cache.append.Goals as goal
 
-pub push-reserved-requires : goal.push-reserved-requires
-push-reserved-requires c =
+pub push_reserved-requires : goal.push_reserved-requires
+push_reserved-requires c =
     let self = c.args.self.now in
     let n = self.entries.ok.0 in
     let m = length-map (vec_items self.entries) entry_of in
@@ -19,8 +19,8 @@ push-reserved-requires c =
     let w = c.requires.1 in
     omega arith
 
-pub invariant-of-self : goal.invariant-of-self
-invariant-of-self c =
+pub invariant_of-self : goal.invariant_of-self
+invariant_of-self c =
     let self = c.args.self.now in
     let e = c.args.entry in
     let n = self.entries.ok.0 in
@@ -32,7 +32,7 @@ invariant-of-self c =
     let j = c.insert.ensures in
     let il = j.len in
     let ir = j.room in
-    let fs = ap (map entry_of) c.push-reserved.ensures.items ∙ map_push entry_of (vec_items self.entries) e in
+    let fs = ap (map entry_of) c.push_reserved.ensures.items ∙ map_push entry_of (vec_items self.entries) e in
     let there = subst (λ h. hinted h (length (entries_of self)) (hints_of c.insert.new.self) ≡ true) c.hash.ensures (subst (λ k. hinted c.hash.result k (hints_of c.insert.new.self) ≡ true) (c.len.ensures ∙ n ∙ sym m) j.there) in
     (ap one_a_key fs ∙ one_appended rules (entry_of e) (entries_of self) self.apart c.requires.0 c.requires.1, (omega arith, (omega arith, (subst (Covers (hints_of c.insert.new.self)) (sym fs) (covers_push (hints_of self.index) (hints_of c.insert.new.self) (entries_of self) (entry_of e) self.covered j.others there), (omega arith, (omega arith, tt))))))
 
@@ -47,4 +47,4 @@ insert-requires c =
     omega arith
 
 pub returns : goal.returns
-returns c = ap (map entry_of) c.push-reserved.ensures.items ∙ map_push entry_of (vec_items c.args.self.now.entries) c.args.entry
+returns c = ap (map entry_of) c.push_reserved.ensures.items ∙ map_push entry_of (vec_items c.args.self.now.entries) c.args.entry

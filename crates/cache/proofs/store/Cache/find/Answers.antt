@@ -14,14 +14,14 @@ loop-place-init c =
     let h = c.hash-hash.ensures in
     begins (hints_of self.index) (entries_of self) (labels key.apex) (labels key.name) key.kind.number c.first_at.result (λ m l. let q = c.first_at.ensures.below m l in omega arith) (λ m l g. let q = c.first_at.ensures.above m l g in omega arith)
 
-pub returns-then-is-at : goal.returns-then-is-at
-returns-then-is-at c =
+pub returns-then-is_at : goal.returns-then-is_at
+returns-then-is_at c =
     let self = c.args.self.now in
     let key = c.args.key.now in
-    leads (entries_of self) (labels key.apex) (labels key.name) key.kind.number c.in-Some.place self.apart c.if-is-at.ensures
+    leads (entries_of self) (labels key.apex) (labels key.name) key.kind.number c.in-Some.place self.apart c.if-is_at.ensures
 
-pub overflow-add-at : goal.overflow-add-at
-overflow-add-at c =
+pub overflow_add-at : goal.overflow_add-at
+overflow_add-at c =
     let self = c.args.self.now in
     let t = (hit (hints_of self.index) c.hash-hash.result c.loop-place.at c.in-Some.place c.in-Some.ensures).in_list in
     let e = self.even in
@@ -40,10 +40,10 @@ loop-place-preserved c =
     let key = c.args.key.now in
     let t = hit (hints_of self.index) c.hash-hash.result c.loop-place.at c.in-Some.place c.in-Some.ensures in
     goes_on_lem (hints_of self.index) (entries_of self) (labels key.apex) (labels key.name) key.kind.number c.loop-place.at c.in-Some.place c.loop-place.invariant
-    (subst (λ h. Hit (hints_of self.index) h c.loop-place.at c.in-Some.place) c.hash-hash.ensures t) (leads_not (entries_of self) (labels key.apex) (labels key.name) key.kind.number c.in-Some.place c.if-is-at.ensures)
+    (subst (λ h. Hit (hints_of self.index) h c.loop-place.at c.in-Some.place) c.hash-hash.ensures t) (leads_not (entries_of self) (labels key.apex) (labels key.name) key.kind.number c.in-Some.place c.if-is_at.ensures)
 
 pub returns : goal.returns
 returns c =
     let self = c.args.self.now in
     let key = c.args.key.now in
-    none_there (hints_of self.index) (entries_of self) (labels key.apex) (labels key.name) key.kind.number self.index.rising self.covered c.loop-place.at c.loop-place.invariant (sym c.in-default.is ∙ c.place-at.ensures ∙ ap (λ h. place_in h (slice_get (hints_of self.index) c.loop-place.at)) c.hash-hash.ensures)
+    none_there (hints_of self.index) (entries_of self) (labels key.apex) (labels key.name) key.kind.number self.index.rising self.covered c.loop-place.at c.loop-place.invariant (sym c.in_default.is ∙ c.place_at.ensures ∙ ap (λ h. place_in h (slice_get (hints_of self.index) c.loop-place.at)) c.hash-hash.ensures)

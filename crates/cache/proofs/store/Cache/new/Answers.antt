@@ -3,11 +3,11 @@ use Rattle.machine.specs.Store.{one_a_key}
 use Rattle.cache.specs.Entries.{entry_of}
 use Rattle.cache.proofs.store.Cache.new.Goals as goal
 
-pub invariant-of-result : goal.invariant-of-result
+pub invariant_of-result : goal.invariant_of-result
 unfolding one_a_key
-invariant-of-result c =
-    let m = c.in-ok-entries.ensures in
-    let n = c.in-ok-index.ensures in
+invariant_of-result c =
+    let m = c.in_ok-entries.ensures in
+    let n = c.in_ok-index.ensures in
     let l = ap length n.0 in
     let k = ap (λ xs. length (map entry_of xs)) m.items in
     let z = m.len in

@@ -18,8 +18,8 @@ index-mut-requires c =
     let w = c.requires.1 in
     omega arith
 
-pub invariant-of-self : goal.invariant-of-self
-invariant-of-self c =
+pub invariant_of-self : goal.invariant_of-self
+invariant_of-self c =
     let self = c.args.self.now in
     let e = c.args.entry in
     let v = self.even in

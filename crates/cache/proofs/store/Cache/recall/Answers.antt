@@ -14,10 +14,10 @@ index-requires c =
     let w = key_within entry_of (vec_items self.entries) (counts rules c.args.moment.0) (labels key.apex) (labels key.name) key.kind.number self.apart c.in-Some.place c.in-Some.ensures in
     omega arith
 
-pub returns-in-default : goal.returns-in-default
-returns-in-default c =
+pub returns-in_default : goal.returns-in_default
+returns-in_default c =
     let key = c.args.key.now in
-    record { entry = not_there entry_of (vec_items c.args.self.now.entries) (counts rules c.args.moment.0) (labels key.apex) (labels key.name) key.kind.number (sym c.in-default.is ∙ c.find.ensures); place = tt }
+    record { entry = not_there entry_of (vec_items c.args.self.now.entries) (counts rules c.args.moment.0) (labels key.apex) (labels key.name) key.kind.number (sym c.in_default.is ∙ c.find.ensures); place = tt }
 
 pub returns-then-counts : goal.returns-then-counts
 returns-then-counts c =

@@ -18,8 +18,8 @@ index-mut-requires c =
     let w = place_within rules (entry_of c.args.entry) (entries_of self) self.apart c.args.place c.requires in
     omega arith
 
-pub invariant-of-self : goal.invariant-of-self
-invariant-of-self c =
+pub invariant_of-self : goal.invariant_of-self
+invariant_of-self c =
     let self = c.args.self.now in
     let e = c.args.entry in
     let fs = map-set entry_of (vec_items self.entries) c.args.place e in

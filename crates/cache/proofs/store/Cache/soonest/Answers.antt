@@ -10,20 +10,20 @@ loop-place-init c =
     let n = c.args.self.now.entries.ok.0 in
     (at_end entry_of rules (vec_items c.args.self.now.entries) c.args.used.now c.min-place.result c.len.result (omega arith) (omega arith), omega arith, omega arith)
 
-pub first-out-requires : goal.first-out-requires
-first-out-requires c =
+pub first_out-requires : goal.first_out-requires
+first_out-requires c =
     let n = c.args.self.now.entries.ok.0 in
     let i = c.loop-place.invariant in
     let w = stands_within entry_of rules (vec_items c.args.self.now.entries) c.args.used.now c.loop-place.place (vec_len c.args.self.now.entries) c.loop-place.found n (omega arith) i.0 in
     (omega arith, w)
 
-pub loop-place-preserved-then-is-free : goal.loop-place-preserved-then-is-free
-loop-place-preserved-then-is-free c =
+pub loop-place-preserved-then-is_free : goal.loop-place-preserved-then-is_free
+loop-place-preserved-then-is_free c =
     let n = c.args.self.now.entries.ok.0 in
     let i = c.loop-place.invariant in
     let t = c.loop-place-test.true in
     let e : c.loop-place.place - 1 + 1 ≡ c.loop-place.place = omega arith in
-    (took_unused entry_of rules (vec_items c.args.self.now.entries) c.args.used.now c.loop-place.place (c.loop-place.place - 1) c.loop-place.found c.first-out.result e (omega arith) (omega arith) i.0 (sym (not-true (get_or c.args.used.now (c.loop-place.place - 1) false) (sym c.if-is-free.ensures))) c.first-out.ensures, omega arith, omega arith)
+    (took_unused entry_of rules (vec_items c.args.self.now.entries) c.args.used.now c.loop-place.place (c.loop-place.place - 1) c.loop-place.found c.first_out.result e (omega arith) (omega arith) i.0 (sym (not-true (get_or c.args.used.now (c.loop-place.place - 1) false) (sym c.if-is_free.ensures))) c.first_out.ensures, omega arith, omega arith)
 
 pub loop-place-preserved : goal.loop-place-preserved
 loop-place-preserved c =
@@ -32,5 +32,5 @@ loop-place-preserved c =
     let t = c.loop-place-test.true in
     let e : c.loop-place.place - 1 + 1 ≡ c.loop-place.place = omega arith in
     let l : c.loop-place.place - 1 < length c.args.used.now = omega arith in
-    let u = sym (not-false (get_or c.args.used.now (c.loop-place.place - 1) false) (sym c.if-is-free.ensures)) ∙ get_or_default c.args.used.now (c.loop-place.place - 1) false true l in
+    let u = sym (not-false (get_or c.args.used.now (c.loop-place.place - 1) false) (sym c.if-is_free.ensures)) ∙ get_or_default c.args.used.now (c.loop-place.place - 1) false true l in
     (passed_used entry_of rules (vec_items c.args.self.now.entries) c.args.used.now c.loop-place.place (c.loop-place.place - 1) c.loop-place.found e l (omega arith) i.0 u, omega arith, omega arith)

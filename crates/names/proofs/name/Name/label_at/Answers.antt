@@ -5,20 +5,20 @@ use Rattle.names.proofs.name.Name.label_at.Goals as goal
 pub start-requires : goal.start-requires
 start-requires c = let h = count_is c.args.self.now in omega arith
 
-pub overflow-add-depth : goal.overflow-add-depth
-overflow-add-depth c = let h = count_is c.args.self.now in search rules
+pub overflow_add-depth : goal.overflow_add-depth
+overflow_add-depth c = let h = count_is c.args.self.now in search rules
 
 pub start-requires-2 : goal.start-requires-2
 start-requires-2 c = let h = count_is c.args.self.now in omega arith
 
-pub slice-bounds-result-count : goal.slice-bounds-result-count
-slice-bounds-result-count c =
+pub slice_bounds-result-count : goal.slice_bounds-result-count
+slice_bounds-result-count c =
     let h = count_is c.args.self.now in
     let k = start_below c.args.self.now c.args.depth (omega arith) in
     omega arith
 
-pub slice-bounds-result-start : goal.slice-bounds-result-start
-slice-bounds-result-start c =
+pub slice_bounds-result-start : goal.slice_bounds-result-start
+slice_bounds-result-start c =
     let h = count_is c.args.self.now in
     let k = start_below c.args.self.now c.args.depth (omega arith) in
     search rules

@@ -4,9 +4,9 @@ use Rattle.names.specs.Layout.{pieces, rising}
 use Rattle.names.specs.Names.{labels}
 use Rattle.names.proofs.name.Name.root.Goals as goal
 
-pub invariant-of-result : goal.invariant-of-result
+pub invariant_of-result : goal.invariant_of-result
 unfolding proper written pieces rising
-invariant-of-result c = (lit≤ tt, (refl, (refl, tt)))
+invariant_of-result c = record { counted = lit≤ tt; laid = refl; limited = refl }
 
 pub returns : goal.returns
 unfolding labels pieces

@@ -4,5 +4,5 @@ use Rattle.names.proofs.name.wire.append_label.Goals as goal
 
 pub returns : goal.returns
 returns c =
-    appends_then (vec_items c.args.out.now) (length c.args.label.now ∷ []) (vec_items c.push.new.self) c.args.label.now (vec_items c.extend-from-slice.new.self) c.extend-from-slice.result c.in-ok-push.ensures.items
-    (appends_one (vec_items c.push.new.self) c.args.label.now (vec_items c.extend-from-slice.new.self) c.extend-from-slice.result c.extend-from-slice.ensures.items)
+    appends_then (vec_items c.args.out.now) (length c.args.label.now ∷ []) (vec_items c.push.new.self) c.args.label.now (vec_items c.extend_from_slice.new.self) c.extend_from_slice.result c.in_ok-push.ensures.items
+    (appends_one (vec_items c.push.new.self) c.args.label.now (vec_items c.extend_from_slice.new.self) c.extend_from_slice.result c.extend_from_slice.ensures.items)

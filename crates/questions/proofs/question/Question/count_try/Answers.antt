@@ -28,8 +28,8 @@ returns-in-Some c =
     let d = tried_first a p 0 0 in
     counts_place a p c.args.place c.args.id.0 (question_of self) (question_of c.recount.new.self) c.in-Some.at d (stands (is_word a p) (tries_of self) c.in-Some.at c.in-Some.ensures) (c.recount.ensures d)
 
-pub returns-then-len-lt-MAX-WORDS : goal.returns-then-len-lt-MAX-WORDS
-returns-then-len-lt-MAX-WORDS c =
+pub returns-then-len-lt-MAX_WORDS : goal.returns-then-len-lt-MAX_WORDS
+returns-then-len-lt-MAX_WORDS c =
     let a = labels c.args.apex.now in
     let p = labels c.args.name.now in
     let self = c.args.self.now in
@@ -37,8 +37,8 @@ returns-then-len-lt-MAX-WORDS c =
     let m = length-map (vec_items self.tries) tried_for in
     counts_new a p c.args.place c.args.id.0 (question_of self) (question_of c.append.new.self) (tried_for c.first.result) (lacks (is_word a p) (tries_of self) c.in-None.ensures) (omega arith) c.first.ensures c.append.ensures
 
-pub returns-else-len-lt-MAX-WORDS : goal.returns-else-len-lt-MAX-WORDS
-returns-else-len-lt-MAX-WORDS c =
+pub returns-else-len-lt-MAX_WORDS : goal.returns-else-len-lt-MAX_WORDS
+returns-else-len-lt-MAX_WORDS c =
     let a = labels c.args.apex.now in
     let p = labels c.args.name.now in
     let self = c.args.self.now in

@@ -7,20 +7,20 @@ use Rattle.questions.proofs.Finding.{place_start, place_found, place_passed, pla
 use Rattle.questions.proofs.question.Question.find.Goals as goal
 
 pub loop-i-init : goal.loop-i-init
-loop-i-init c = place_start tried_for (is_word (labels c.args.apex.now) (labels c.args.name.now)) c.as-slice-tries.result.now
+loop-i-init c = place_start tried_for (is_word (labels c.args.apex.now) (labels c.args.name.now)) c.as_slice-tries.result.now
 
 pub loop-i-preserved : goal.loop-i-preserved
 loop-i-preserved c =
-    place_passed tried_for (is_word (labels c.args.apex.now) (labels c.args.name.now)) c.as-slice-tries.result.now c.loop-i.i c.index-tries-i.result (omega arith) c.index-tries-i.is c.if-is-word.ensures c.loop-i.invariant
+    place_passed tried_for (is_word (labels c.args.apex.now) (labels c.args.name.now)) c.as_slice-tries.result.now c.loop-i.i c.index-tries-i.result (omega arith) c.index-tries-i.is c.if-is_word.ensures c.loop-i.invariant
 
-pub returns-then-is-word : goal.returns-then-is-word
-returns-then-is-word c =
+pub returns-then-is_word : goal.returns-then-is_word
+returns-then-is_word c =
     let test = is_word (labels c.args.apex.now) (labels c.args.name.now) in
-    place_found tried_for test c.as-slice-tries.result.now c.loop-i.i c.index-tries-i.result (omega arith) c.index-tries-i.is c.if-is-word.ensures c.loop-i.invariant
-    ∙ ap (λ xs. place_of test (map tried_for xs)) c.as-slice-tries.ensures.value
+    place_found tried_for test c.as_slice-tries.result.now c.loop-i.i c.index-tries-i.result (omega arith) c.index-tries-i.is c.if-is_word.ensures c.loop-i.invariant
+    ∙ ap (λ xs. place_of test (map tried_for xs)) c.as_slice-tries.ensures.value
 
 pub returns : goal.returns
 returns c =
     let test = is_word (labels c.args.apex.now) (labels c.args.name.now) in
-    place_missed tried_for test c.as-slice-tries.result.now c.loop-i.i (omega arith) c.loop-i.invariant
-    ∙ ap (λ xs. place_of test (map tried_for xs)) c.as-slice-tries.ensures.value
+    place_missed tried_for test c.as_slice-tries.result.now c.loop-i.i (omega arith) c.loop-i.invariant
+    ∙ ap (λ xs. place_of test (map tried_for xs)) c.as_slice-tries.ensures.value

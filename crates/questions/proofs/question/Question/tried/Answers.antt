@@ -6,11 +6,11 @@ use Rattle.questions.specs.Tries.{tried_for, tries_of}
 use Rattle.questions.proofs.Finding.{stands, lacks, stands_within, first_stands, first_lacks, read_at}
 use Rattle.questions.proofs.question.Question.tried.Goals as goal
 
-pub returns-in-default : goal.returns-in-default
-returns-in-default c =
+pub returns-in_default : goal.returns-in_default
+returns-in_default c =
     let test = is_word (labels c.args.apex.now) (labels c.args.name.now) in
     let ts = tries_of c.args.self.now in
-    sym (first_lacks test ts (lacks test ts c.in-default.ensures))
+    sym (first_lacks test ts (lacks test ts c.in_default.ensures))
 
 pub index-requires : goal.index-requires
 index-requires c =

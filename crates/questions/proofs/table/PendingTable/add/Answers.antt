@@ -6,26 +6,26 @@ use Rattle.questions.specs.Queries.{pending_of}
 use Rattle.questions.specs.Tables.{table_of}
 use Rattle.questions.proofs.table.PendingTable.add.Goals as goal
 
-pub push-reserved-requires : goal.push-reserved-requires
-push-reserved-requires c =
+pub push_reserved-requires : goal.push_reserved-requires
+push_reserved-requires c =
     let self = c.args.self.now in
     let n = self.queries.ok.0 in
     let m = length-map (vec_items self.queries) pending_of in
     let r = self.room in
-    let l = false-leb 96 (length (table_of self)) c.if-is-full.ensures in
+    let l = false-leb 96 (length (table_of self)) c.if-is_full.ensures in
     omega arith
 
-pub invariant-of-self : goal.invariant-of-self
-invariant-of-self c =
+pub invariant_of-self : goal.invariant_of-self
+invariant_of-self c =
     let self = c.args.self.now in
     let n = self.queries.ok.0 in
     let m = length-map (vec_items self.queries) pending_of in
     let r = self.room in
-    let l = false-leb 96 (length (table_of self)) c.if-is-full.ensures in
+    let l = false-leb 96 (length (table_of self)) c.if-is_full.ensures in
     (omega arith, (omega arith, tt))
 
 pub returns : goal.returns
 returns c = record {
-  told = ap not c.if-is-full.ensures;
-  table = ap (map pending_of) c.push-reserved.ensures.items ∙ map_push pending_of (vec_items c.args.self.now.queries) c.args.pending;
+  told = ap not c.if-is_full.ensures;
+  table = ap (map pending_of) c.push_reserved.ensures.items ∙ map_push pending_of (vec_items c.args.self.now.queries) c.args.pending;
 }

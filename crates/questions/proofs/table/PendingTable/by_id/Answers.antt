@@ -10,16 +10,16 @@ loop-pending-init c = refl
 
 pub loop-pending-preserved : goal.loop-pending-preserved
 loop-pending-preserved c =
-    first_passed pending_of (λ (x : Pending). eqb x.query.id c.args.id.0) c.as-slice-queries.result.now c.loop-pending.pending-index c.pending-item.result (omega arith) c.pending-item.is c.if-has-id.ensures c.loop-pending.invariant
+    first_passed pending_of (λ (x : Pending). eqb x.query.id c.args.id.0) c.as_slice-queries.result.now c.loop-pending.pending-index c.pending-item.result (omega arith) c.pending-item.is c.if-has_id.ensures c.loop-pending.invariant
 
-pub returns-then-has-id : goal.returns-then-has-id
-returns-then-has-id c =
+pub returns-then-has_id : goal.returns-then-has_id
+returns-then-has_id c =
     let test = (λ (x : Pending). eqb x.query.id c.args.id.0) in
-    first_found pending_of test c.as-slice-queries.result.now c.loop-pending.pending-index c.pending-item.result (omega arith) c.pending-item.is c.if-has-id.ensures c.loop-pending.invariant
-    ∙ ap (λ xs. first test (map pending_of xs)) c.as-slice-queries.ensures.value
+    first_found pending_of test c.as_slice-queries.result.now c.loop-pending.pending-index c.pending-item.result (omega arith) c.pending-item.is c.if-has_id.ensures c.loop-pending.invariant
+    ∙ ap (λ xs. first test (map pending_of xs)) c.as_slice-queries.ensures.value
 
 pub returns : goal.returns
 returns c =
     let test = (λ (x : Pending). eqb x.query.id c.args.id.0) in
-    first_missed pending_of test c.as-slice-queries.result.now c.loop-pending.pending-index (omega arith) c.loop-pending.invariant
-    ∙ ap (λ xs. first test (map pending_of xs)) c.as-slice-queries.ensures.value
+    first_missed pending_of test c.as_slice-queries.result.now c.loop-pending.pending-index (omega arith) c.loop-pending.invariant
+    ∙ ap (λ xs. first test (map pending_of xs)) c.as_slice-queries.ensures.value

@@ -7,8 +7,8 @@ use Rattle.records.proofs.data.limits.addresses_len.Goals as goal
 pub loop-address-preserved : goal.loop-address-preserved
 loop-address-preserved c =
     let i = c.loop-address.invariant.1 in
-    let b = c.address-len.ensures.bound in (
-      one_weighed bytes_of c.args.addresses.now c.loop-address.len c.loop-address.address-index c.address-len.result (get_or c.args.addresses.now c.loop-address.address-index _) c.loop-address.invariant.0 c.loop-address-test.true (get_or_default c.args.addresses.now c.loop-address.address-index _ _ c.loop-address-test.true) c.address-len.ensures.value,
+    let b = c.address_len.ensures.bound in (
+      one_weighed bytes_of c.args.addresses.now c.loop-address.len c.loop-address.address-index c.address_len.result (get_or c.args.addresses.now c.loop-address.address-index _) c.loop-address.invariant.0 c.loop-address-test.true (get_or_default c.args.addresses.now c.loop-address.address-index _ _ c.loop-address-test.true) c.address_len.ensures.value,
       omega arith,
     )
 

@@ -6,8 +6,8 @@ pub loop-piece-preserved : goal.loop-piece-preserved
 loop-piece-preserved c =
     one_weighed vec_items c.args.pieces.now c.loop-piece.len c.loop-piece.piece-index c.len.result c.piece-item.result c.loop-piece.invariant c.loop-piece-test.true c.piece-item.is (c.len.ensures ∙ c.piece-item.result.ok.0)
 
-pub overflow-add-len-in-loop-piece : goal.overflow-add-len-in-loop-piece
-overflow-add-len-in-loop-piece c =
+pub overflow_add-len-in-loop-piece : goal.overflow_add-len-in-loop-piece
+overflow_add-len-in-loop-piece c =
     let w = one_weighed vec_items c.args.pieces.now c.loop-piece.len c.loop-piece.piece-index c.len.result c.piece-item.result c.loop-piece.invariant c.loop-piece-test.true c.piece-item.is (c.len.ensures ∙ c.piece-item.result.ok.0) in
     let b = fit_wire (map vec_items c.args.pieces.now) c.requires in
     let l : c.loop-piece.len + (1 + c.len.result) ≤ 616 = omega arith in

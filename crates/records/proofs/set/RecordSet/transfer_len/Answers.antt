@@ -6,6 +6,6 @@ use Rattle.records.proofs.set.RecordSet.transfer_len.Goals as goal
 pub returns : goal.returns
 returns c =
     let h = length_transferred (set_of c.args.self.now) in
-    let w = c.wire-len.ensures in
-    let p = c.pieces-len.ensures in
+    let w = c.wire_len.ensures in
+    let p = c.pieces_len.ensures in
     record { value = omega arith; bound = omega arith }

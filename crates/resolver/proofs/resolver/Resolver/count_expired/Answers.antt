@@ -10,8 +10,8 @@ loop-i-init c = (none_counted (rules_for c.args.self.now) (state_of c.args.self.
 
 pub loop-i-preserved : goal.loop-i-preserved
 loop-i-preserved c = (
-  next_counted (roots_of c.args.self.now) (state_of c.args.self.now) c.args.next.0 (roots_of c.loop-i.self) c.loop-i.i (state_of c.loop-i.self) (state_of c.count-expired-at.new.self) (omega arith) c.count-expired-at.ensures.state c.loop-i.invariant.0,
-  c.count-expired-at.ensures.roots ∙ c.loop-i.invariant.1,
+  next_counted (roots_of c.args.self.now) (state_of c.args.self.now) c.args.next.0 (roots_of c.loop-i.self) c.loop-i.i (state_of c.loop-i.self) (state_of c.count_expired_at.new.self) (omega arith) c.count_expired_at.ensures.state c.loop-i.invariant.0,
+  c.count_expired_at.ensures.roots ∙ c.loop-i.invariant.1,
 )
 
 pub returns : goal.returns

@@ -13,8 +13,8 @@ loop-question-init c = none_changed question_of (count_by c.args.self.now.moment
 
 pub loop-question-preserved : goal.loop-question-preserved
 loop-question-preserved c =
-    next_changed question_of (count_by c.args.self.now.moment.0 (entries_of c.args.self.now.cache) (pending_of c.args.pending.now)) c.deref-mut-question-items.result.now c.loop-question.question-items c.loop-question.question-index (get_or c.loop-question.question-items c.loop-question.question-index c.question-item.result) c.count-for.new.question
-    (omega arith) c.loop-question.auto.question-items c.loop-question.invariant (ap (λ d. get_or c.loop-question.question-items c.loop-question.question-index d) c.question-item.is) c.count-for.ensures
+    next_changed question_of (count_by c.args.self.now.moment.0 (entries_of c.args.self.now.cache) (pending_of c.args.pending.now)) c.deref-mut-question-items.result.now c.loop-question.question-items c.loop-question.question-index (get_or c.loop-question.question-items c.loop-question.question-index c.question-item.result) c.count_for.new.question
+    (omega arith) c.loop-question.auto.question-items c.loop-question.invariant (ap (λ d. get_or c.loop-question.question-items c.loop-question.question-index d) c.question-item.is) c.count_for.ensures
 
 pub returns : goal.returns
 returns c =

@@ -16,7 +16,7 @@ loop-i-preserved c =
     let k = c.args.self.now.walks.ok.0 in
     let q = c.index.result.now in
     not_this (rules_for c.args.self.now) (state_of c.args.self.now) (map question_of (vec_items c.args.self.now.walks)) c.loop-i.i (question_of c.index.result.now) (omega arith) (read_at question_of (vec_items c.args.self.now.walks) c.loop-i.i c.index.result.now (omega arith) c.index.ensures (question_of c.index.result.now))
-    (ap is_done (sym c.standing.ensures) ∙ not_done (roots_of c.args.self.now) (entries_of c.args.self.now.cache) c.standing.result c.in-default.not-Done) c.loop-i.invariant
+    (ap is_done (sym c.standing.ensures) ∙ not_done (roots_of c.args.self.now) (entries_of c.args.self.now.cache) c.standing.result c.in_default.not-Done) c.loop-i.invariant
 
 pub returns-in-Done : goal.returns-in-Done
 returns-in-Done c =

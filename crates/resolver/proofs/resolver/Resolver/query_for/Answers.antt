@@ -11,14 +11,14 @@ use Rattle.resolver.specs.Resolvers.{roots_of, one_tried}
 use Rattle.resolver.proofs.Drawing.{sent}
 use Rattle.resolver.proofs.resolver.Resolver.query_for.Goals as goal
 
-pub place-for-place-requires : goal.place-for-place-requires
-place-for-place-requires c =
-    let m = length-map c.servers-at-servers.result.now bytes_of in
-    let e = ap length c.servers-at-servers.ensures in
+pub place_for-place-requires : goal.place_for-place-requires
+place_for-place-requires c =
+    let m = length-map c.servers_at-servers.result.now bytes_of in
+    let e = ap length c.servers_at-servers.ensures in
     let p = c.requires in
     omega arith
 
 pub returns : goal.returns
 returns c =
     let ss = servers_at (roots_of c.args.self.now) (entries_of c.args.self.now.cache) c.args.wanted.now.referral in
-    sent c.args.id.0 (labels c.args.wanted.now.apex) (labels c.args.wanted.now.name) c.args.kind.number c.args.self.now.moment.0 (one_tried c.args.wanted.now.tried) bytes_of c.servers-at-servers.result.now (servers_at (roots_of c.args.self.now) (entries_of c.args.self.now.cache) c.args.wanted.now.referral) c.place-for-place.result _ c.servers-at-servers.ensures c.place-for-place.ensures.place c.place-for-place.ensures.below
+    sent c.args.id.0 (labels c.args.wanted.now.apex) (labels c.args.wanted.now.name) c.args.kind.number c.args.self.now.moment.0 (one_tried c.args.wanted.now.tried) bytes_of c.servers_at-servers.result.now (servers_at (roots_of c.args.self.now) (entries_of c.args.self.now.cache) c.args.wanted.now.referral) c.place_for-place.result _ c.servers_at-servers.ensures c.place_for-place.ensures.place c.place_for-place.ensures.below

@@ -23,17 +23,17 @@ returns-in-TooLong c =
     (c.walk-course.ensures.course (roots_of c.args.self.now) ∙ (λ i. course_of (rules_for c.args.self.now) c.args.self.now.moment.0 (entries_of c.args.self.now.cache) (c.name.ensures i) (c.kind.ensures i)))
     (ap (end_for (entries_of c.args.self.now.cache)) c.in-TooLong.is)
 
-pub returns-then-may-use : goal.returns-then-may-use
-returns-then-may-use c =
+pub returns-then-may_use : goal.returns-then-may_use
+returns-then-may_use c =
     c.lacking.ensures
     ∙ by_lack (rules_for c.args.self.now) (state_of c.args.self.now) (question_of c.args.question.now) (course_for (roots_of c.args.self.now) (entries_of c.args.self.now.cache) c.walk-course.result)
     (c.walk-course.ensures.course (roots_of c.args.self.now) ∙ (λ i. course_of (rules_for c.args.self.now) c.args.self.now.moment.0 (entries_of c.args.self.now.cache) (c.name.ensures i) (c.kind.ensures i)))
     (labels c.in-Lacks.apex) (labels c.in-Lacks.name) (ap (end_for (entries_of c.args.self.now.cache)) c.in-Lacks.is)
-    (not-true (too_many (tried_of (labels c.in-Lacks.apex) (labels c.in-Lacks.name) (tries_of c.args.question.now)) (tries_of c.args.question.now)) (sym c.if-may-use.ensures))
+    (not-true (too_many (tried_of (labels c.in-Lacks.apex) (labels c.in-Lacks.name) (tries_of c.args.question.now)) (tries_of c.args.question.now)) (sym c.if-may_use.ensures))
 
-pub returns-else-may-use : goal.returns-else-may-use
-returns-else-may-use c =
+pub returns-else-may_use : goal.returns-else-may_use
+returns-else-may_use c =
     by_many (rules_for c.args.self.now) (state_of c.args.self.now) (question_of c.args.question.now) (course_for (roots_of c.args.self.now) (entries_of c.args.self.now.cache) c.walk-course.result)
     (c.walk-course.ensures.course (roots_of c.args.self.now) ∙ (λ i. course_of (rules_for c.args.self.now) c.args.self.now.moment.0 (entries_of c.args.self.now.cache) (c.name.ensures i) (c.kind.ensures i)))
     (labels c.in-Lacks.apex) (labels c.in-Lacks.name) (ap (end_for (entries_of c.args.self.now.cache)) c.in-Lacks.is)
-    (not-false (too_many (tried_of (labels c.in-Lacks.apex) (labels c.in-Lacks.name) (tries_of c.args.question.now)) (tries_of c.args.question.now)) (sym c.if-may-use.ensures))
+    (not-false (too_many (tried_of (labels c.in-Lacks.apex) (labels c.in-Lacks.name) (tries_of c.args.question.now)) (tries_of c.args.question.now)) (sym c.if-may_use.ensures))

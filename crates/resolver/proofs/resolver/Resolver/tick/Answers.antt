@@ -9,6 +9,6 @@ pub returns : goal.returns
 returns c =
     record {
       told = sym (lt-ltb c.args.self.now.moment.0 18446744073709551615 (omega arith));
-      state = ticked (roots_of c.args.self.now) (state_of c.args.self.now) _ (state_of c.count-expired.new.self) (table_of c.expire.new.self) refl c.count-expired.ensures.state c.expire.ensures;
-      roots = c.count-expired.ensures.roots;
+      state = ticked (roots_of c.args.self.now) (state_of c.args.self.now) _ (state_of c.count_expired.new.self) (table_of c.expire.new.self) refl c.count_expired.ensures.state c.expire.ensures;
+      roots = c.count_expired.ensures.roots;
     }

@@ -23,7 +23,7 @@ loop-i-preserved c =
     let i = c.loop-i.invariant.1 in (
       not_this (λ u. is_waiting (standing (rules_for c.args.self.now) (state_of c.args.self.now) u)) (map question_of (vec_items c.args.self.now.walks)) c.loop-i.i (question_of c.index-question.result.now) (omega arith) (omega arith)
           (read_at question_of (vec_items c.args.self.now.walks) (c.loop-i.i - 1) c.index-question.result.now (omega arith) c.index-question.ensures (question_of c.index-question.result.now))
-          (ap is_waiting (sym c.standing.ensures) ∙ not_waiting (roots_of c.args.self.now) (entries_of c.args.self.now.cache) c.standing.result c.in-default.not-Wants) c.loop-i.invariant.0,
+          (ap is_waiting (sym c.standing.ensures) ∙ not_waiting (roots_of c.args.self.now) (entries_of c.args.self.now.cache) c.standing.result c.in_default.not-Wants) c.loop-i.invariant.0,
       omega arith,
     )
 

@@ -9,5 +9,5 @@ use Rattle.resolver.proofs.resolver.standing.is_exhausted.Goals as goal
 pub returns : goal.returns
 returns c =
     let ss = c.args.servers.now in
-    halved (length c.args.servers.now) c.count-of.result
-    ∙ (λ i. leb (2 * sym (length-map c.args.servers.now bytes_of) i) (c.count-of.ensures i))
+    halved (length c.args.servers.now) c.count_of.result
+    ∙ (λ i. leb (2 * sym (length-map c.args.servers.now bytes_of) i) (c.count_of.ensures i))

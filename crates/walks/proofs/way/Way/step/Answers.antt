@@ -12,7 +12,7 @@ returns-in-Alias c =
     let s = ap said_of c.in-Alias.is in
     record {
       turn = ap (λ x. next x (labels c.args.self.name)) s ∙ ap (λ a. Goes a (labels c.in-Alias.to)) (sym c.root.ensures);
-      least = ap Some (c.lesser-of.ensures ∙ ap (lesser c.args.self.least) c.left.ensures);
+      least = ap Some (c.lesser_of.ensures ∙ ap (lesser c.args.self.least) c.left.ensures);
       referral = subst (λ x. Names c.args.place x None) (sym s) refl;
     }
 
@@ -22,7 +22,7 @@ returns-in-Referral c =
     let s = ap said_of c.in-Referral.is in
     record {
       turn = ap (λ x. next x (labels c.args.self.name)) s;
-      least = ap Some (c.lesser-of.ensures ∙ ap (lesser c.args.self.least) c.left.ensures);
+      least = ap Some (c.lesser_of.ensures ∙ ap (lesser c.args.self.least) c.left.ensures);
       referral = subst (λ x. Names c.args.place x (Some c.args.place)) (sym s) refl;
     }
 

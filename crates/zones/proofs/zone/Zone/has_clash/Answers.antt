@@ -9,22 +9,22 @@ use Rattle.zones.proofs.Held.{held}
 use Rattle.zones.proofs.Standing.{alias_clashes, plain_clashes, some_mapped}
 use Rattle.zones.proofs.zone.Zone.has_clash.Goals as goal
 
-pub is-at-requires : goal.is-at-requires
-is-at-requires c =
+pub is_at-requires : goal.is_at-requires
+is_at-requires c =
     let z = c.args.self.now in
-    held set_of (labels z.apex) (labels c.name.result.now) c.as-slice-sets.result.now (vec_items z.sets) c.as-slice-sets.ensures.value z.ordered z.limited (subst (λ m. within (labels z.apex) m ≡ true) (sym c.name.ensures) c.requires) c.as-slice-fronts.result.now (c.as-slice-fronts.ensures.value ∙ z.marked)
+    held set_of (labels z.apex) (labels c.name.result.now) c.as_slice-sets.result.now (vec_items z.sets) c.as_slice-sets.ensures.value z.ordered z.limited (subst (λ m. within (labels z.apex) m ≡ true) (sym c.name.ensures) c.requires) c.as_slice-fronts.result.now (c.as_slice-fronts.ensures.value ∙ z.marked)
 
-pub find-exact-requires : goal.find-exact-requires
-find-exact-requires c =
+pub find_exact-requires : goal.find_exact-requires
+find_exact-requires c =
     let z = c.args.self.now in
-    held set_of (labels z.apex) (labels c.name-else-is-alias.result.now) c.as-slice-sets.result.now (vec_items z.sets) c.as-slice-sets.ensures.value z.ordered z.limited (subst (λ m. within (labels z.apex) m ≡ true) (sym c.name-else-is-alias.ensures) c.requires) c.as-slice-fronts.result.now (c.as-slice-fronts.ensures.value ∙ z.marked)
+    held set_of (labels z.apex) (labels c.name-else-is_alias.result.now) c.as_slice-sets.result.now (vec_items z.sets) c.as_slice-sets.ensures.value z.ordered z.limited (subst (λ m. within (labels z.apex) m ≡ true) (sym c.name-else-is_alias.ensures) c.requires) c.as_slice-fronts.result.now (c.as_slice-fronts.ensures.value ∙ z.marked)
 
-pub returns-then-is-alias : goal.returns-then-is-alias
-returns-then-is-alias c =
-    c.is-at.ensures ∙ (λ i. any_at (c.name.ensures i) (map set_of (c.as-slice-sets.ensures.value i)))
-    ∙ sym (alias_clashes (set_of c.args.set.now) (map set_of (vec_items c.args.self.now.sets)) (ap aliases (sym c.kind.ensures) ∙ sym c.if-is-alias.ensures))
+pub returns-then-is_alias : goal.returns-then-is_alias
+returns-then-is_alias c =
+    c.is_at.ensures ∙ (λ i. any_at (c.name.ensures i) (map set_of (c.as_slice-sets.ensures.value i)))
+    ∙ sym (alias_clashes (set_of c.args.set.now) (map set_of (vec_items c.args.self.now.sets)) (ap aliases (sym c.kind.ensures) ∙ sym c.if-is_alias.ensures))
 
-pub returns-else-is-alias : goal.returns-else-is-alias
-returns-else-is-alias c =
-    c.is-some.ensures ∙ some_mapped (λ s. set_of s.now) c.find-exact.result _ c.find-exact.ensures ∙ (λ i. is_some (find (is_exactly (c.name-else-is-alias.ensures i) 5) (map set_of (c.as-slice-sets.ensures.value i))))
-    ∙ sym (plain_clashes (set_of c.args.set.now) (map set_of (vec_items c.args.self.now.sets)) (ap aliases (sym c.kind.ensures) ∙ sym c.if-is-alias.ensures))
+pub returns-else-is_alias : goal.returns-else-is_alias
+returns-else-is_alias c =
+    c.is_some.ensures ∙ some_mapped (λ s. set_of s.now) c.find_exact.result _ c.find_exact.ensures ∙ (λ i. is_some (find (is_exactly (c.name-else-is_alias.ensures i) 5) (map set_of (c.as_slice-sets.ensures.value i))))
+    ∙ sym (plain_clashes (set_of c.args.set.now) (map set_of (vec_items c.args.self.now.sets)) (ap aliases (sym c.kind.ensures) ∙ sym c.if-is_alias.ensures))

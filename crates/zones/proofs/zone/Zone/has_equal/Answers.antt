@@ -5,7 +5,7 @@ use Rattle.records.specs.Sets.{set_of}
 use Rattle.zones.proofs.Held.{held}
 use Rattle.zones.proofs.zone.Zone.has_equal.Goals as goal
 
-pub find-exact-requires : goal.find-exact-requires
-find-exact-requires c =
+pub find_exact-requires : goal.find_exact-requires
+find_exact-requires c =
     let z = c.args.self.now in
-    held set_of (labels z.apex) (labels c.name.result.now) c.as-slice.result.now (vec_items z.sets) c.as-slice.ensures.value z.ordered z.limited (subst (λ m. within (labels z.apex) m ≡ true) (sym c.name.ensures) c.requires) c.as-slice-2.result.now (c.as-slice-2.ensures.value ∙ z.marked)
+    held set_of (labels z.apex) (labels c.name.result.now) c.as_slice.result.now (vec_items z.sets) c.as_slice.ensures.value z.ordered z.limited (subst (λ m. within (labels z.apex) m ≡ true) (sym c.name.ensures) c.requires) c.as_slice-2.result.now (c.as_slice-2.ensures.value ∙ z.marked)

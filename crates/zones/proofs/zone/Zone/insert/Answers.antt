@@ -17,8 +17,8 @@ pub position-at-requires : goal.position-at-requires
 position-at-requires c =
     let z = c.args.self.now in
     let s = set_of c.args.set in
-    let m = may (labels z.apex) (map set_of (vec_items z.sets)) s (insert_set s (map set_of (vec_items z.sets))) c.in-ok-check.ensures in
-    held set_of (labels z.apex) (labels c.name.result.now) c.as-slice.result.now (vec_items z.sets) c.as-slice.ensures.value z.ordered z.limited (subst (λ n. within (labels z.apex) n ≡ true) (sym c.name.ensures) m.inside) c.as-slice-2.result.now (c.as-slice-2.ensures.value ∙ z.marked)
+    let m = may (labels z.apex) (map set_of (vec_items z.sets)) s (insert_set s (map set_of (vec_items z.sets))) c.in_ok-check.ensures in
+    held set_of (labels z.apex) (labels c.name.result.now) c.as_slice.result.now (vec_items z.sets) c.as_slice.ensures.value z.ordered z.limited (subst (λ n. within (labels z.apex) n ≡ true) (sym c.name.ensures) m.inside) c.as_slice-2.result.now (c.as_slice-2.ensures.value ∙ z.marked)
 
 -- there are as many fronts as sets
 pub insert-requires-2 : goal.insert-requires-2
@@ -26,62 +26,62 @@ insert-requires-2 c =
     let z = c.args.self.now in
     let m = fronts_many set_of (vec_items z.sets) (vec_items z.fronts) (length (labels z.apex)) z.marked in
     let b = c.position-at.ensures.bound in
-    let l = ap length c.as-slice.ensures.value in
+    let l = ap length c.as_slice.ensures.value in
     let k = z.fronts.ok.0 in
     let r = c.reserve-2.ensures.len in
     omega arith
 
-pub overflow-add-self : goal.overflow-add-self
-overflow-add-self c =
+pub overflow_add-self : goal.overflow_add-self
+overflow_add-self c =
     let z = c.args.self.now in
     let f = few_sets (labels z.apex) (map set_of (vec_items z.sets)) z.limited in
     let b = z.bounded in
-    let t = c.transfer-len-len.ensures.bound in
-    let l : z.carried + c.transfer-len-len.result ≤ 3601263 = omega arith in
+    let t = c.transfer_len-len.ensures.bound in
+    let l : z.carried + c.transfer_len-len.result ≤ 3601263 = omega arith in
     search rules
 
-pub invariant-of-self-in-Some : goal.invariant-of-self-in-Some
-invariant-of-self-in-Some c =
+pub invariant_of-self-in-Some : goal.invariant_of-self-in-Some
+invariant_of-self-in-Some c =
     let z = c.args.self.now in
     let xs = vec_items z.sets in
     let s = c.args.set in
     let apex = labels z.apex in
-    let m = may apex (map set_of xs) (set_of s) (insert_set (set_of s) (map set_of xs)) c.in-ok-check.ensures in
-    let at = c.position-at.ensures.value ∙ (λ i. place (c.name.ensures i) ((c.number.ensures ∙ c.kind.ensures) i) (map set_of (c.as-slice.ensures.value i))) in
-    let marked = still_marked set_of xs s (length apex) c.position-at.result c.front-below-front.result (is_ok c.insert-2.result) (vec_items z.fronts) (vec_items c.reserve-2.new.self) (vec_items c.insert-2.new.self) (vec_items c.insert.new.self) z.marked (c.front-below-front.ensures ∙ (λ i. front_below (c.label-count.ensures i) (c.name-2.ensures i))) c.in-ok-insert.ensures.items c.reserve-2.ensures.items (c.insert-2.ensures.succeeds (omega (arith, c.in-ok-reserve-2.ensures.ok))) c.insert-2.ensures.items in
-    let is = ap (map set_of) c.in-ok-insert.ensures.items ∙ put_in set_of xs s c.position-at.result at in (
-      still_sorted set_of xs s apex true (vec_items c.insert.new.self) c.position-at.result z.ordered m at c.in-ok-insert.ensures.items,
+    let m = may apex (map set_of xs) (set_of s) (insert_set (set_of s) (map set_of xs)) c.in_ok-check.ensures in
+    let at = c.position-at.ensures.value ∙ (λ i. place (c.name.ensures i) ((c.number.ensures ∙ c.kind.ensures) i) (map set_of (c.as_slice.ensures.value i))) in
+    let marked = still_marked set_of xs s (length apex) c.position-at.result c.front_below-front.result (is_ok c.insert-2.result) (vec_items z.fronts) (vec_items c.reserve-2.new.self) (vec_items c.insert-2.new.self) (vec_items c.insert.new.self) z.marked (c.front_below-front.ensures ∙ (λ i. front_below (c.label_count.ensures i) (c.name-2.ensures i))) c.in_ok-insert.ensures.items c.reserve-2.ensures.items (c.insert-2.ensures.succeeds (omega (arith, c.in_ok-reserve-2.ensures.ok))) c.insert-2.ensures.items in
+    let is = ap (map set_of) c.in_ok-insert.ensures.items ∙ put_in set_of xs s c.position-at.result at in (
+      still_sorted set_of xs s apex true (vec_items c.insert.new.self) c.position-at.result z.ordered m at c.in_ok-insert.ensures.items,
       (
-        still_valid set_of xs s apex true (vec_items c.insert.new.self) c.position-at.result z.limited m at c.in-ok-insert.ensures.items,
+        still_valid set_of xs s apex true (vec_items c.insert.new.self) c.position-at.result z.limited m at c.in_ok-insert.ensures.items,
         (
-          (λ i. cuts_of apex (is i) ((c.add-cut.ensures ∙ ap (λ ys. with_cut (labels c.in-Some.name) (map labels ys)) c.reserve.ensures.items) i))
+          (λ i. cuts_of apex (is i) ((c.add_cut.ensures ∙ ap (λ ys. with_cut (labels c.in-Some.name) (map labels ys)) c.reserve.ensures.items) i))
               ∙ more_by apex (map set_of xs) (map labels (vec_items z.cuts)) z.cut (set_of s) (labels c.in-Some.name) m.inside c.in-Some.ensures,
           (
-            still_carried set_of xs s c.position-at.result z.carried c.transfer-len-len.result (vec_items c.insert.new.self) z.weighed c.transfer-len-len.ensures.value at c.in-ok-insert.ensures.items,
-            (still_bounded set_of xs s c.position-at.result z.carried c.transfer-len-len.result (vec_items c.insert.new.self) z.bounded c.transfer-len-len.ensures.bound at c.in-ok-insert.ensures.items, (marked, tt)),
+            still_carried set_of xs s c.position-at.result z.carried c.transfer_len-len.result (vec_items c.insert.new.self) z.weighed c.transfer_len-len.ensures.value at c.in_ok-insert.ensures.items,
+            (still_bounded set_of xs s c.position-at.result z.carried c.transfer_len-len.result (vec_items c.insert.new.self) z.bounded c.transfer_len-len.ensures.bound at c.in_ok-insert.ensures.items, (marked, tt)),
           ),
         ),
       ),
     )
 
-pub invariant-of-self-in-default : goal.invariant-of-self-in-default
-invariant-of-self-in-default c =
+pub invariant_of-self-in_default : goal.invariant_of-self-in_default
+invariant_of-self-in_default c =
     let z = c.args.self.now in
     let xs = vec_items z.sets in
     let s = c.args.set in
     let apex = labels z.apex in
-    let m = may apex (map set_of xs) (set_of s) (insert_set (set_of s) (map set_of xs)) c.in-ok-check.ensures in
-    let at = c.position-at.ensures.value ∙ (λ i. place (c.name.ensures i) ((c.number.ensures ∙ c.kind.ensures) i) (map set_of (c.as-slice.ensures.value i))) in
-    let marked = still_marked set_of xs s (length apex) c.position-at.result c.front-below-front.result (is_ok c.insert-2.result) (vec_items z.fronts) (vec_items c.reserve-2.new.self) (vec_items c.insert-2.new.self) (vec_items c.insert.new.self) z.marked (c.front-below-front.ensures ∙ (λ i. front_below (c.label-count.ensures i) (c.name-2.ensures i))) c.in-ok-insert.ensures.items c.reserve-2.ensures.items (c.insert-2.ensures.succeeds (omega (arith, c.in-ok-reserve-2.ensures.ok))) c.insert-2.ensures.items in
-    let is = ap (map set_of) c.in-ok-insert.ensures.items ∙ put_in set_of xs s c.position-at.result at in (
-      still_sorted set_of xs s apex true (vec_items c.insert.new.self) c.position-at.result z.ordered m at c.in-ok-insert.ensures.items,
+    let m = may apex (map set_of xs) (set_of s) (insert_set (set_of s) (map set_of xs)) c.in_ok-check.ensures in
+    let at = c.position-at.ensures.value ∙ (λ i. place (c.name.ensures i) ((c.number.ensures ∙ c.kind.ensures) i) (map set_of (c.as_slice.ensures.value i))) in
+    let marked = still_marked set_of xs s (length apex) c.position-at.result c.front_below-front.result (is_ok c.insert-2.result) (vec_items z.fronts) (vec_items c.reserve-2.new.self) (vec_items c.insert-2.new.self) (vec_items c.insert.new.self) z.marked (c.front_below-front.ensures ∙ (λ i. front_below (c.label_count.ensures i) (c.name-2.ensures i))) c.in_ok-insert.ensures.items c.reserve-2.ensures.items (c.insert-2.ensures.succeeds (omega (arith, c.in_ok-reserve-2.ensures.ok))) c.insert-2.ensures.items in
+    let is = ap (map set_of) c.in_ok-insert.ensures.items ∙ put_in set_of xs s c.position-at.result at in (
+      still_sorted set_of xs s apex true (vec_items c.insert.new.self) c.position-at.result z.ordered m at c.in_ok-insert.ensures.items,
       (
-        still_valid set_of xs s apex true (vec_items c.insert.new.self) c.position-at.result z.limited m at c.in-ok-insert.ensures.items,
+        still_valid set_of xs s apex true (vec_items c.insert.new.self) c.position-at.result z.limited m at c.in_ok-insert.ensures.items,
         (
-          (λ i. cuts_of apex (is i) (map labels (c.reserve.ensures.items i))) ∙ kept_by apex (map set_of xs) (map labels (vec_items z.cuts)) z.cut (set_of s) c.in-default.ensures,
+          (λ i. cuts_of apex (is i) (map labels (c.reserve.ensures.items i))) ∙ kept_by apex (map set_of xs) (map labels (vec_items z.cuts)) z.cut (set_of s) c.in_default.ensures,
           (
-            still_carried set_of xs s c.position-at.result z.carried c.transfer-len-len.result (vec_items c.insert.new.self) z.weighed c.transfer-len-len.ensures.value at c.in-ok-insert.ensures.items,
-            (still_bounded set_of xs s c.position-at.result z.carried c.transfer-len-len.result (vec_items c.insert.new.self) z.bounded c.transfer-len-len.ensures.bound at c.in-ok-insert.ensures.items, (marked, tt)),
+            still_carried set_of xs s c.position-at.result z.carried c.transfer_len-len.result (vec_items c.insert.new.self) z.weighed c.transfer_len-len.ensures.value at c.in_ok-insert.ensures.items,
+            (still_bounded set_of xs s c.position-at.result z.carried c.transfer_len-len.result (vec_items c.insert.new.self) z.bounded c.transfer_len-len.ensures.bound at c.in_ok-insert.ensures.items, (marked, tt)),
           ),
         ),
       ),
@@ -91,12 +91,12 @@ pub returns-in-Some : goal.returns-in-Some
 returns-in-Some c =
     let xs = vec_items c.args.self.now.sets in
     let s = c.args.set in
-    let at = c.position-at.ensures.value ∙ (λ i. place (c.name.ensures i) ((c.number.ensures ∙ c.kind.ensures) i) (map set_of (c.as-slice.ensures.value i))) in
-    (insert_set (set_of s) (map set_of xs), c.in-ok-check.ensures, ap (with_sets (zone_of c.args.self.now)) (ap (map set_of) c.in-ok-insert.ensures.items ∙ put_in set_of xs s c.position-at.result at))
+    let at = c.position-at.ensures.value ∙ (λ i. place (c.name.ensures i) ((c.number.ensures ∙ c.kind.ensures) i) (map set_of (c.as_slice.ensures.value i))) in
+    (insert_set (set_of s) (map set_of xs), c.in_ok-check.ensures, ap (with_sets (zone_of c.args.self.now)) (ap (map set_of) c.in_ok-insert.ensures.items ∙ put_in set_of xs s c.position-at.result at))
 
-pub returns-in-default : goal.returns-in-default
-returns-in-default c =
+pub returns-in_default : goal.returns-in_default
+returns-in_default c =
     let xs = vec_items c.args.self.now.sets in
     let s = c.args.set in
-    let at = c.position-at.ensures.value ∙ (λ i. place (c.name.ensures i) ((c.number.ensures ∙ c.kind.ensures) i) (map set_of (c.as-slice.ensures.value i))) in
-    (insert_set (set_of s) (map set_of xs), c.in-ok-check.ensures, ap (with_sets (zone_of c.args.self.now)) (ap (map set_of) c.in-ok-insert.ensures.items ∙ put_in set_of xs s c.position-at.result at))
+    let at = c.position-at.ensures.value ∙ (λ i. place (c.name.ensures i) ((c.number.ensures ∙ c.kind.ensures) i) (map set_of (c.as_slice.ensures.value i))) in
+    (insert_set (set_of s) (map set_of xs), c.in_ok-check.ensures, ap (with_sets (zone_of c.args.self.now)) (ap (map set_of) c.in_ok-insert.ensures.items ∙ put_in set_of xs s c.position-at.result at))

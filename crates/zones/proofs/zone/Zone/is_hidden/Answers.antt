@@ -7,8 +7,8 @@ use Rattle.zones.proofs.Held.{all_belong_lem}
 use Rattle.zones.proofs.Topmost.{none_outside}
 use Rattle.zones.proofs.zone.Zone.is_hidden.Goals as goal
 
-pub returns-then-not-is-within : goal.returns-then-not-is-within
-returns-then-not-is-within c =
+pub returns-then-not-is_within : goal.returns-then-not-is_within
+returns-then-not-is_within c =
     let z = c.args.self.now in
     let ss = map set_of (vec_items z.sets) in
-    ap (is_other (set_of c.args.set.now)) (none_outside (labels z.apex) ss (all_belong_lem (labels z.apex) ss z.limited) (labels c.args.set.now.name) (sym (c.if-not-is-within.ensures ∙ ap (within (labels z.apex)) c.name.ensures)))
+    ap (is_other (set_of c.args.set.now)) (none_outside (labels z.apex) ss (all_belong_lem (labels z.apex) ss z.limited) (labels c.args.set.now.name) (sym (c.if-not-is_within.ensures ∙ ap (within (labels z.apex)) c.name.ensures)))

@@ -3,8 +3,8 @@ use Rattle.zones.specs.Zones.{zone_of, speaker_of}
 use Rattle.zones.proofs.Spoken.{said, unsaid}
 use Rattle.zones.proofs.zone.Zone.lookup.Goals as goal
 
-pub returns-then-is-within : goal.returns-then-is-within
-returns-then-is-within c = said (zone_of c.args.self.now) (labels c.args.name.now) c.args.kind.number (speaker_of c.reply.result) c.if-is-within.ensures c.reply.ensures
+pub returns-then-is_within : goal.returns-then-is_within
+returns-then-is_within c = said (zone_of c.args.self.now) (labels c.args.name.now) c.args.kind.number (speaker_of c.reply.result) c.if-is_within.ensures c.reply.ensures
 
-pub returns-else-is-within : goal.returns-else-is-within
-returns-else-is-within c = unsaid (zone_of c.args.self.now) (labels c.args.name.now) c.args.kind.number c.if-is-within.ensures
+pub returns-else-is_within : goal.returns-else-is_within
+returns-else-is_within c = unsaid (zone_of c.args.self.now) (labels c.args.name.now) c.args.kind.number c.if-is_within.ensures

@@ -7,9 +7,9 @@ use Rattle.zones.specs.Cuts.{apart, cuts_of}
 use Rattle.zones.specs.Valid.{valid}
 use Rattle.zones.proofs.zone.Zone.new.Goals as goal
 
-pub invariant-of-result : goal.invariant-of-result
+pub invariant_of-result : goal.invariant_of-result
 unfolding sorted apart each all_transferred
-invariant-of-result c = (
+invariant_of-result c = (
   ap (λ xs. sorted (map set_of xs)) c.new.ensures.items,
   (
     ap (λ xs. valid (labels c.args.apex) (map set_of xs)) c.new.ensures.items,

@@ -7,8 +7,8 @@ use Rattle.names.proofs.Cutting.{Cutting, none_cut, one_cut, cut_short, cut_bad,
 use Rattle.names.proofs.Laws.{labels_proper}
 use Rattle.names.proofs.name.wire.Reader.name.Goals as goal
 
-pub returns-in-default : goal.returns-in-default
-returns-in-default c =
+pub returns-in_default : goal.returns-in_default
+returns-in_default c =
     let bs = c.args.self.now.rest.now in
     let none : length bs ≡ 0 = search rules in
     let e = read_empty bs none in
@@ -22,11 +22,11 @@ loop-init c =
     subst (λ k. Cutting n (between 1 (length bs) bs) (labels c.root-name.result) true k (between 1 (length bs) bs)) z
     (subst (λ ls. Cutting n (between 1 (length bs) bs) ls true n (between 1 (length bs) bs)) (sym c.root-name.ensures) (none_cut n (between 1 (length bs) bs)))
 
-pub returns-in-default-cut-label : goal.returns-in-default-cut-label
-returns-in-default-cut-label c =
+pub returns-in_default-cut_label : goal.returns-in_default-cut_label
+returns-in_default-cut_label c =
     let bs = c.args.self.now.rest.now in
     let some : 0 < length bs = search rules in
-    let e = ap read_wire (first_rest bs 0 some) ∙ cut_short _ _ _ _ _ _ c.loop.invariant (omega arith) (sym c.in-default-cut-label.ensures) in
+    let e = ap read_wire (first_rest bs 0 some) ∙ cut_short _ _ _ _ _ _ c.loop.invariant (omega arith) (sym c.in_default-cut_label.ensures) in
     record { value = ap name_read (sym e); rest = ap (λ r. rest_read r bs) (sym e) }
 
 pub loop-preserved : goal.loop-preserved
@@ -34,8 +34,8 @@ loop-preserved c =
     let bs = c.args.self.now.rest.now in
     let n = get_or bs 0 0 in
     let k : n - c.loop.counter - 1 ≡ n - (c.loop.counter + 1) = omega arith in
-    subst (λ j. Cutting n (between 1 (length bs) bs) (labels c.push-if-good.new.name) c.push-if-good.result j c.in-Some.after.now) k
-    (one_cut _ _ _ _ _ _ _ _ c.in-Some.label.now c.in-Some.after.now c.loop.invariant (omega arith) (sym c.in-Some.ensures) c.push-if-good.ensures.value c.push-if-good.ensures.after)
+    subst (λ j. Cutting n (between 1 (length bs) bs) (labels c.push_if-good.new.name) c.push_if-good.result j c.in-Some.after.now) k
+    (one_cut _ _ _ _ _ _ _ _ c.in-Some.label.now c.in-Some.after.now c.loop.invariant (omega arith) (sym c.in-Some.ensures) c.push_if-good.ensures.value c.push_if-good.ensures.after)
 
 pub returns-then-not-good : goal.returns-then-not-good
 returns-then-not-good c =
