@@ -10,19 +10,19 @@ invariant_of-self c =
     let xs = hints_of c.args.self.now in
     let n = c.args.self.now.hints.ok.0 in
     let w = c.requires in
-    let f = c.first_at.ensures in
-    let e = was_inserted xs (vec_items c.insert.new.self) c.first_at.result (record { hash = c.args.hash; place = c.args.place }) (is_ok c.insert.result) c.insert.ensures.items (c.insert.ensures.succeeds (omega arith)) in
-    (subst Rising (sym e) (rising_inserted xs c.args.self.now.rising c.first_at.result (record { hash = c.args.hash; place = c.args.place }) f.within f.below f.above), tt)
+    let f = c.first-at.ensures in
+    let e = was_inserted xs (vec_items c.insert.new.self) c.first-at.result (record { hash = c.args.hash; place = c.args.place }) (is_ok c.insert.result) c.insert.ensures.items (c.insert.ensures.succeeds (omega arith)) in
+    record { rising = subst Rising (sym e) (rising_inserted xs c.args.self.now.rising c.first-at.result (record { hash = c.args.hash; place = c.args.place }) f.within f.below f.above) }
 
 pub returns : goal.returns
 returns c =
     let xs = hints_of c.args.self.now in
     let n = c.args.self.now.hints.ok.0 in
     let w = c.requires in
-    let e = was_inserted xs (vec_items c.insert.new.self) c.first_at.result (record { hash = c.args.hash; place = c.args.place }) (is_ok c.insert.result) c.insert.ensures.items (c.insert.ensures.succeeds (omega arith)) in
+    let e = was_inserted xs (vec_items c.insert.new.self) c.first-at.result (record { hash = c.args.hash; place = c.args.place }) (is_ok c.insert.result) c.insert.ensures.items (c.insert.ensures.succeeds (omega arith)) in
     record {
-      there = ap (hinted c.args.hash c.args.place) e ∙ hinted_new xs c.first_at.result c.args.hash c.args.place;
-      others = λ h i b. ap (hinted h i) e ∙ hinted_inserted xs c.first_at.result (record { hash = c.args.hash; place = c.args.place }) h i b;
-      len = ap length e ∙ length-insert xs c.first_at.result (record { hash = c.args.hash; place = c.args.place }) c.first_at.ensures.within;
+      there = ap (hinted c.args.hash c.args.place) e ∙ hinted_new xs c.first-at.result c.args.hash c.args.place;
+      others = λ h i b. ap (hinted h i) e ∙ hinted_inserted xs c.first-at.result (record { hash = c.args.hash; place = c.args.place }) h i b;
+      len = ap length e ∙ length-insert xs c.first-at.result (record { hash = c.args.hash; place = c.args.place }) c.first-at.ensures.within;
       room = c.insert.ensures.capacity;
     }

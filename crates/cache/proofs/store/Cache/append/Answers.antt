@@ -34,7 +34,7 @@ invariant_of-self c =
     let ir = j.room in
     let fs = ap (map entry_of) c.push_reserved.ensures.items ∙ map_push entry_of (vec_items self.entries) e in
     let there = subst (λ h. hinted h (length (entries_of self)) (hints_of c.insert.new.self) ≡ true) c.hash.ensures (subst (λ k. hinted c.hash.result k (hints_of c.insert.new.self) ≡ true) (c.len.ensures ∙ n ∙ sym m) j.there) in
-    (ap one_a_key fs ∙ one_appended rules (entry_of e) (entries_of self) self.apart c.requires.0 c.requires.1, (omega arith, (omega arith, (subst (Covers (hints_of c.insert.new.self)) (sym fs) (covers_push (hints_of self.index) (hints_of c.insert.new.self) (entries_of self) (entry_of e) self.covered j.others there), (omega arith, (omega arith, tt))))))
+    record { apart = ap one_a_key fs ∙ one_appended rules (entry_of e) (entries_of self) self.apart c.requires.0 c.requires.1; few = omega arith; room = omega arith; covered = subst (Covers (hints_of c.insert.new.self)) (sym fs) (covers_push (hints_of self.index) (hints_of c.insert.new.self) (entries_of self) (entry_of e) self.covered j.others there); even = omega arith; spare = omega arith }
 
 pub insert-requires : goal.insert-requires
 insert-requires c =

@@ -12,7 +12,7 @@ loop-place-init c =
     let self = c.args.self.now in
     let key = c.args.key.now in
     let h = c.hash-hash.ensures in
-    begins (hints_of self.index) (entries_of self) (labels key.apex) (labels key.name) key.kind.number c.first_at.result (λ m l. let q = c.first_at.ensures.below m l in omega arith) (λ m l g. let q = c.first_at.ensures.above m l g in omega arith)
+    begins (hints_of self.index) (entries_of self) (labels key.apex) (labels key.name) key.kind.number c.first-at.result (λ m l. let q = c.first-at.ensures.below m l in omega arith) (λ m l g. let q = c.first-at.ensures.above m l g in omega arith)
 
 pub returns-then-is_at : goal.returns-then-is_at
 returns-then-is_at c =

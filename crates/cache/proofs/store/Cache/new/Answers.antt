@@ -11,4 +11,4 @@ invariant_of-result c =
     let l = ap length n.0 in
     let k = ap (λ xs. length (map entry_of xs)) m.items in
     let z = m.len in
-    (ap (λ xs. one_a_key (map entry_of xs)) m.items, (omega arith, (m.capacity, (λ i g. absurd (omega arith), (omega arith, (n.1, tt))))))
+    record { apart = ap (λ xs. one_a_key (map entry_of xs)) m.items; few = omega arith; room = m.capacity; covered = λ i g. absurd (omega arith); even = omega arith; spare = n.1 }

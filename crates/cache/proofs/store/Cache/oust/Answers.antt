@@ -10,8 +10,8 @@ use Rattle.cache.proofs.Covering.{covers_set, covers_push, covers_replaced}
 use Rattle.cache.proofs.Storing.{place_within, one_replaced, one_appended, one_ousted}
 use Rattle.cache.proofs.store.Cache.oust.Goals as goal
 
-pub index-mut-requires : goal.index-mut-requires
-index-mut-requires c =
+pub index_mut-requires : goal.index_mut-requires
+index_mut-requires c =
     let self = c.args.self.now in
     let n = self.entries.ok.0 in
     let m = length-map (vec_items self.entries) entry_of in
@@ -32,7 +32,7 @@ invariant_of-self c =
     let rr = k.room in
     let fs = map-set entry_of (vec_items self.entries) c.args.place e in
     let there = subst (λ h. hinted h c.args.place (hints_of c.insert.new.self) ≡ true) c.hash.ensures j.there in
-    (ap one_a_key fs ∙ one_ousted rules (entry_of e) (entries_of self) self.apart c.requires.0 c.args.place c.requires.1, (self.few, (self.room, (subst (Covers (hints_of c.insert.new.self)) (sym fs) (covers_set (hints_of self.index) (hints_of c.insert.new.self) (entries_of self) (entry_of e) self.covered c.args.place (λ h i a b. j.others h i (k.others h i a b)) there), (omega arith, (omega arith, tt))))))
+    record { apart = ap one_a_key fs ∙ one_ousted rules (entry_of e) (entries_of self) self.apart c.requires.0 c.args.place c.requires.1; few = self.few; room = self.room; covered = subst (Covers (hints_of c.insert.new.self)) (sym fs) (covers_set (hints_of self.index) (hints_of c.insert.new.self) (entries_of self) (entry_of e) self.covered c.args.place (λ h i a b. j.others h i (k.others h i a b)) there); even = omega arith; spare = omega arith }
 
 pub remove-requires : goal.remove-requires
 remove-requires c =

@@ -10,8 +10,8 @@ use Rattle.cache.proofs.Covering.{covers_set, covers_push, covers_replaced}
 use Rattle.cache.proofs.Storing.{place_within, one_replaced, one_appended, one_ousted}
 use Rattle.cache.proofs.store.Cache.replace.Goals as goal
 
-pub index-mut-requires : goal.index-mut-requires
-index-mut-requires c =
+pub index_mut-requires : goal.index_mut-requires
+index_mut-requires c =
     let self = c.args.self.now in
     let n = self.entries.ok.0 in
     let m = length-map (vec_items self.entries) entry_of in
@@ -23,7 +23,7 @@ invariant_of-self c =
     let self = c.args.self.now in
     let e = c.args.entry in
     let fs = map-set entry_of (vec_items self.entries) c.args.place e in
-    (ap one_a_key fs ∙ one_replaced rules (entry_of e) (entries_of self) self.apart c.args.place c.requires, (self.few, (self.room, (subst (Covers (hints_of self.index)) (sym fs) (covers_replaced (hints_of self.index) (entries_of self) (entry_of e) c.args.place self.covered self.apart c.requires), (self.even, (self.spare, tt))))))
+    record { apart = ap one_a_key fs ∙ one_replaced rules (entry_of e) (entries_of self) self.apart c.args.place c.requires; few = self.few; room = self.room; covered = subst (Covers (hints_of self.index)) (sym fs) (covers_replaced (hints_of self.index) (entries_of self) (entry_of e) c.args.place self.covered self.apart c.requires); even = self.even; spare = self.spare }
 
 pub returns : goal.returns
 returns c = map-set entry_of (vec_items c.args.self.now.entries) c.args.place c.args.entry
