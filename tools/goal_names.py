@@ -13,7 +13,7 @@ TOKEN = re.compile(r"[A-Za-z][\w']*(?:-[\w']+)+")
 IDENT = re.compile(r"\b[A-Za-z][A-Za-z0-9]*(?:_[A-Za-z0-9]+)+\b")
 STD = ["from_utf8_unchecked", "copy_from_slice", "extend_from_slice", "as_slice", "as_mut_slice", "is_empty", "is_ne", "is_err", "is_ok", "is_some", "is_none",
        "starts_with", "ends_with", "write_str", "write_fmt", "split_at", "checked_add", "checked_sub", "checked_mul", "swap_remove", "unwrap_or", "as_bytes", "as_str", "to_be_bytes",
-       "from_be_bytes", "saturating_sub", "abs_diff", "and_then", "or_else", "map_err", "ok_or", "iter_mut", "as_mut", "as_ref", "get_mut", "partial_cmp"]
+       "from_be_bytes", "saturating_sub", "abs_diff", "and_then", "or_else", "map_err", "ok_or", "iter_mut", "as_mut", "as_ref", "get_mut", "partial_cmp", "index_mut", "deref_mut"]
 
 
 def main():

@@ -18,7 +18,7 @@ invariant_of-self c =
     let n = self.tries.ok.0 in
     let m = length-map (vec_items self.tries) tried_for in
     let r = self.room in
-    (omega arith, (omega arith, tt))
+    record { few = omega arith; room = omega arith }
 
 pub returns : goal.returns
 returns c =

@@ -11,8 +11,8 @@ index-tried-requires c =
     let m = length-map (vec_items self.tries) tried_for in
     omega arith
 
-pub index-mut-requires : goal.index-mut-requires
-index-mut-requires c =
+pub index_mut-requires : goal.index_mut-requires
+index_mut-requires c =
     let self = c.args.self.now in
     let n = self.tries.ok.0 in
     let m = length-map (vec_items self.tries) tried_for in

@@ -22,7 +22,7 @@ invariant_of-self c =
     let m = length-map (vec_items self.queries) pending_of in
     let r = self.room in
     let l = false-leb 96 (length (table_of self)) c.if-is_full.ensures in
-    (omega arith, (omega arith, tt))
+    record { few = omega arith; room = omega arith }
 
 pub returns : goal.returns
 returns c = record {
