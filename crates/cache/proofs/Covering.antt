@@ -1,8 +1,8 @@
 -- Hints for every entry, where an entry comes in the place of another or at the end.
-use Rattle.std.proofs.Common.{◌≡◌, ℕ, ◌+◌, ◌<◌, ◌≤◌, Bool, true, ◌⊎◌, List, [], ◌∷◌, ◌++◌, length, get_or, set, Some, sym, refl, ap, ◌∙◌, subst, inl, inr, arith, length-append}
+use Rattle.std.proofs.Common.{◌≡◌, ℕ, ◌+◌, ◌<◌, ◌≤◌, true, ◌⊎◌, List, [], ◌∷◌, ◌++◌, length, get_or, set, Some, sym, ap, ◌∙◌, subst, inl, inr, arith, length-append}
 use Rattle.std.proofs.lemmas.List.{length-set, get_or-set_same, get_or-set_other, get_or_append_left, get_or_push}
 use Rattle.std.proofs.lemmas.Bool.{cases_lt, cases_eq}
-use Rattle.protocol.specs.World.{Entry, is_key}
+use Rattle.protocol.specs.World.{Entry}
 use Rattle.machine.specs.Store.{place_of, one_a_key}
 use Rattle.machine.proofs.Keys.{of_key, key_so, placed, placed_at}
 use Rattle.cache.specs.declared.index.Hint.{Hint}

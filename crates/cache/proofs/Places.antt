@@ -1,5 +1,5 @@
 -- Places of keys in a list in which no two entries have one key.
-use Rattle.std.proofs.Common.{◌≡◌, ℕ, nat_eq, zero, suc, ◌+◌, ◌<◌, ◌≤◌, Bool, true, false, cond, ◌&&◌, eqb, List, [], ◌∷◌, map, length, get_or, Some, None, Option, sym, refl, ap, ◌∙◌, subst, true≢false, arith}
+use Rattle.std.proofs.Common.{◌≡◌, ℕ, nat_eq, zero, suc, ◌<◌, ◌≤◌, Bool, true, false, List, [], ◌∷◌, map, length, get_or, Some, None, sym, refl, ap, ◌∙◌, arith}
 use mathlib.Core.List.{Memᴰ}
 use lib.ListN.{length-map}
 use Rattle.std.specs.Option.{option_map}
@@ -12,7 +12,7 @@ use Rattle.names.proofs.Within.{names_told}
 use Rattle.meaning.specs.Says.{same}
 use Rattle.meaning.specs.Speech.{Empty}
 use Rattle.meaning.proofs.Rules.{same_so, so_same}
-use Rattle.protocol.specs.World.{Entry, is_key}
+use Rattle.protocol.specs.World.{Entry}
 use Rattle.machine.specs.Store.{place_of, one_a_key}
 use Rattle.machine.proofs.Keys.{of_key, key_so, so_key, one_tail, one_head, place_here, place_there}
 

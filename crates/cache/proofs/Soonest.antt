@@ -1,12 +1,11 @@
 -- The entry that runs out first, looked for from the last place to the first.
-use Rattle.std.proofs.Common.{◌≡◌, ℕ, zero, suc, ◌+◌, ◌<◌, ◌≤◌, min, Bool, true, false, cond, ltb, ◌⊎◌, List, [], ◌∷◌, ◌++◌, map, length, get_or, drop, IfSome, Some, None, Option, sym, refl, ap, ◌∙◌, subst, inl, inr, ⊎_elim, true≢false, arith, length-drop}
+use Rattle.std.proofs.Common.{◌≡◌, ℕ, suc, ◌+◌, ◌<◌, ◌≤◌, min, Bool, true, false, cond, ltb, ◌⊎◌, List, [], ◌∷◌, ◌++◌, map, length, get_or, drop, IfSome, Some, None, Option, sym, refl, ap, ◌∙◌, subst, inl, inr, ⊎_elim, arith, length-drop}
 use lib.ListN.{length-map}
 use Rattle.std.specs.Option.{option_map}
 use Rattle.std.proofs.lemmas.List.{drop_more, drop_all, get_or-drop, get_or_default}
-use Rattle.std.proofs.lemmas.Bool.{cond-true, cond-false, cases_lt}
+use Rattle.std.proofs.lemmas.Bool.{cases_lt}
 use Rattle.protocol.specs.World.{Rules, Entry, is_key}
-use Rattle.protocol.proofs.Lists.{some_is, some_none}
-use Rattle.machine.specs.Store.{max_entries, place_of, sooner, pick, soonest, Put, Kept, oust, put_at, put}
+use Rattle.machine.specs.Store.{max_entries, place_of, sooner, pick, soonest, Kept, oust, put_at, put}
 use Rattle.cache.proofs.Places.{probe, read_at}
 use Rattle.cache.specs.Flags.{soonest_by, put_by_at, put_by, first_of_two, FlagsLaws}
 

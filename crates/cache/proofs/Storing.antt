@@ -1,8 +1,7 @@
 -- The ways of putting an entry in, and that each leaves no two entries of one key.
-use Rattle.std.proofs.Common.{◌≡◌, ℕ, ◌<◌, ◌≤◌, Bool, true, false, cond, ltb, ◌⊎◌, List, [], ◌∷◌, ◌++◌, map, length, get_or, set, Some, None, Option, sym, refl, ap, ◌∙◌, subst, inl, inr, true≢false, arith}
-use mathlib.Core.List.{Memᴰ}
+use Rattle.std.proofs.Common.{◌≡◌, ℕ, ◌<◌, ◌≤◌, Bool, true, cond, ltb, List, [], ◌∷◌, ◌++◌, length, get_or, set, Some, None, sym, ap, ◌∙◌, inl, true≢false}
 use Rattle.std.proofs.lemmas.Bool.{cond-true, cond-false, lt-ltb, le-ltb}
-use Rattle.protocol.specs.World.{Rules, Entry, is_key}
+use Rattle.protocol.specs.World.{Rules, Entry}
 use Rattle.machine.specs.Store.{max_entries, place_of, one_a_key, soonest, Put, Kept, Ousted, NoRoom, oust, put_at, put}
 use Rattle.machine.proofs.Keys.{of_key, place_none, set_one, placed, placed_at, placed_self}
 use Rattle.machine.proofs.Storing.{store_laws}

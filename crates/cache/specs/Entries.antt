@@ -1,5 +1,5 @@
 -- What words and entries stand for.
-use Rattle.std.specs.Prelude.{ℕ, List, [], map, vec_items}
+use Rattle.std.specs.Prelude.{[], map, vec_items}
 use Rattle.names.specs.Names.{labels}
 use Rattle.records.specs.Contents.{bytes_of, content_of}
 use Rattle.meaning.specs.Speech as says

@@ -2,7 +2,7 @@
 use Rattle.std.specs.Prelude.{◌≡◌, ℕ, suc, Bool, cond, List, [], ◌∷◌, ◌++◌, map, length, Some, None, Option, nat_lt, slice_index_or, slice_set}
 use Rattle.std.specs.Option.{option_map}
 use Rattle.protocol.specs.World.{Rules, Entry, is_key}
-use Rattle.machine.specs.Store.{max_entries, place_of, sooner, pick, soonest, Put, Kept, oust, put}
+use Rattle.machine.specs.Store.{max_entries, place_of, sooner, pick, Put, Kept, oust, put}
 
 -- where the entry stands that runs out first, of those not in use; a place without a flag counts as in use
 unfoldable pub soonest_by : Rules → List Bool → List Entry → Option ℕ

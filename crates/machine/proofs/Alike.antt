@@ -1,13 +1,13 @@
 -- Lists with the same members: a cache of one entry a key tells the same in any order.
-use Rattle.std.proofs.Common.{◌≡◌, ℕ, ◌+◌, ◌<◌, ◌≤◌, Bool, true, false, cond, not, ◌&&◌, ◌⊎◌, List, [], ◌∷◌, ◌++◌, map, length, Some, None, Option, sym, refl, ap, ◌∙◌, subst, inl, inr, ⊎_elim, arith}
+use Rattle.std.proofs.Common.{◌≡◌, ℕ, Bool, true, ◌&&◌, ◌⊎◌, List, [], ◌∷◌, map, Some, None, Option, sym, refl, ap, ◌∙◌, subst, inl, inr, ⊎_elim}
 use mathlib.Core.List.Memᴰ
 use mathlib.Core.List.{Memᴰ}
-use Rattle.protocol.specs.Lists.{first, kept}
+use Rattle.protocol.specs.Lists.{kept}
 use Rattle.protocol.specs.Words.{Name}
-use Rattle.protocol.specs.World.{Rules, Query, Entry, World, counts, is_key}
-use Rattle.protocol.specs.Walks.{Walk, walk, entry_said, remembered, shown_by, shown}
-use Rattle.protocol.proofs.Lists.{some_is, some_none, first_some, first_none, kept_in, in_kept}
-use Rattle.protocol.proofs.Settled.{Held, held}
+use Rattle.protocol.specs.World.{Rules, Entry, World, counts, is_key}
+use Rattle.protocol.specs.Walks.{walk, entry_said, remembered, shown_by, shown}
+use Rattle.protocol.proofs.Lists.{first_some, first_none, kept_in, in_kept}
+use Rattle.protocol.proofs.Settled.{held}
 use Rattle.machine.specs.Store.{one_a_key}
 use Rattle.machine.specs.Machine.{Question, State, walk_of}
 use Rattle.machine.specs.Refine.{SameMembers, Stands}

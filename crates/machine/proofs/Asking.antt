@@ -1,34 +1,33 @@
 -- The machine itself asks for the word that its youngest question lacks, and hears it.
-use Rattle.std.proofs.Common.{◌≡◌, ℕ, zero, suc, ◌+◌, ◌*◌, ◌%◌, ◌<◌, ◌≤◌, Bool, true, false, cond, not, ◌&&◌, eqb, ltb, leb, ◌⊎◌, List, [], ◌∷◌, ◌++◌, map, length, get_or, Some, None, Ok, Err, Option, Result, sym, refl, ap, ◌∙◌, subst, inl, inr, ⊎_elim, true≢false, append_assoc, mul-suc, arith, length-append}
+use Rattle.std.proofs.Common.{◌≡◌, ℕ, zero, suc, ◌+◌, ◌*◌, ◌%◌, ◌<◌, ◌≤◌, Bool, true, false, cond, not, ◌&&◌, eqb, leb, ◌⊎◌, List, [], ◌∷◌, ◌++◌, map, length, get_or, Some, None, Ok, Err, Option, sym, refl, ap, ◌∙◌, subst, inl, inr, ⊎_elim, true≢false, append_assoc, mul-suc, arith}
 use mathlib.Core.List.Memᴰ
 use mathlib.Core.List.{map-append, Memᴰ}
 use lib.ListN.{length-map}
 use Rattle.std.specs.Option.{option_or}
-use Rattle.names.specs.declared.fault.Fault.{Fault}
 use Rattle.names.specs.declared.fault.Fault.TheVariants.{Malformed, WrongApex}
 use Rattle.names.specs.Order.{same_label, within}
 use Rattle.std.proofs.lemmas.Nat.{mod-mul-add}
-use Rattle.std.proofs.lemmas.Bool.{cond-true, cond-false, cond_both, and_parts, and_from, not-true, not_from_false, eqb-true, eq-eqb, ne_eqb, lt-leb}
+use Rattle.std.proofs.lemmas.Bool.{cond-true, cond-false, cond_both, and_parts, and_from, not-true, not_from_false, eq-eqb, ne_eqb, lt-leb}
 use Rattle.meaning.specs.Says.{same}
 use Rattle.meaning.proofs.Rules.{same_so, so_same}
-use Rattle.protocol.specs.Lists.{first, kept, any}
+use Rattle.protocol.specs.Lists.{first, kept}
 use Rattle.protocol.specs.Words.{Name, Server, Word, Outcome, Next, Ends, Goes, next, tells}
-use Rattle.protocol.specs.World.{Rules, Copy, Query, Response, Entry, World, Event, Asks, Responds, Hears, Forgets, with_query, with_responses, is_copy_at, copy_at, unexpired, copy_says, respond, drawn, may_draw, may_ask, matching, hear, is_key, counts, entry_for, query_for, step, world, Brought}
-use Rattle.protocol.specs.Walks.{End, Shows, LacksAt, TooLong, Walk, walk, remembered, entry_said}
+use Rattle.protocol.specs.World.{Rules, Copy, Query, Response, Entry, World, Event, Asks, Responds, Hears, Forgets, with_query, with_responses, is_copy_at, copy_at, unexpired, copy_says, respond, drawn, may_draw, may_ask, matching, hear, is_key, entry_for, query_for, world}
+use Rattle.protocol.specs.Walks.{Shows, LacksAt, TooLong, Walk, walk, remembered, entry_said}
 use Rattle.protocol.specs.Promise.{price, offers_in}
-use Rattle.protocol.proofs.Lists.{some_is, some_none, first_here, first_there, first_some, first_none, kept_in, none_any, some_any, any_none}
+use Rattle.protocol.proofs.Lists.{some_none, first_here, first_there, first_some, kept_in, none_any, some_any, any_none}
 use Rattle.protocol.proofs.Fetch.{above_all}
-use Rattle.protocol.proofs.Settled.{Held, held, found_by}
+use Rattle.protocol.proofs.Settled.{held, found_by}
 use Rattle.protocol.proofs.Steps.{inv}
 use Rattle.protocol.proofs.Walks.{walk_none, walk_lacks, walk_ends, walk_goes}
-use Rattle.machine.specs.Store.{one_a_key, Put, Kept, Ousted, NoRoom, put}
+use Rattle.machine.specs.Store.{Put, Kept, Ousted, NoRoom, put}
 use Rattle.machine.specs.Machine as machine
 use Rattle.machine.specs.Machine.{max_words, Tried, Question, Pending, State, queries_of, walk_of, servers_on, is_word, tried_of, too_many, exhausted, pending_for, Standing, Done, Wants, Nowhere, lacking, standing_by, standing, count_up, try_more, lacks_for, count_try, count_tries, place_for, Sent, last_of, is_waiting, send, send_on, send_for, is_pending, draw, misfit, used_by, in_use, Heard, close_in, keep, heard_by, hear_fit, hear_for}
 use Rattle.machine.specs.Live.{SoundZone, all_steps}
-use Rattle.machine.specs.Refine.{SameMembers, Stands, sends, drops, hearing, Joint, draws, hears, others}
-use Rattle.machine.proofs.Alike.{map_in, in_map}
+use Rattle.machine.specs.Refine.{Stands, drops, hearing, Joint, draws, hears, others}
+use Rattle.machine.proofs.Alike.{in_map}
 use Rattle.machine.proofs.Fitting.{fits_query}
-use Rattle.machine.proofs.Keys.{of_key, key_so, so_key, key_self, one_of}
+use Rattle.machine.proofs.Keys.{of_key, key_so, key_self, one_of}
 use Rattle.machine.proofs.Main.{Runs, runs}
 use Rattle.machine.proofs.Paths.{recalled, never_full}
 use Rattle.machine.proofs.Refining.{guard}

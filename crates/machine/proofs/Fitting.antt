@@ -1,14 +1,12 @@
 -- What a sound zone says always fits the query that asked for it.
-use Rattle.std.proofs.Common.{◌≡◌, ℕ, ◌+◌, ◌<◌, ◌≤◌, Bool, true, false, cond, not, ◌&&◌, ◌||◌, eqb, leb, ◌⊎◌, List, [], ◌∷◌, length, Some, None, Option, sym, refl, ap, ◌∙◌, subst, inl, inr, ⊎_elim, true≢false, arith, length-append}
-use mathlib.Core.List.{Memᴰ}
-use Rattle.names.specs.declared.fault.Fault.{Fault}
+use Rattle.std.proofs.Common.{◌≡◌, ℕ, ◌<◌, ◌≤◌, Bool, true, false, not, ◌&&◌, eqb, leb, length, Some, None, Option, sym, refl, ap, ◌∙◌, subst, ⊎_elim, true≢false, arith, length-append}
 use Rattle.names.specs.declared.fault.Fault.TheVariants.{BadData, Misplaced, Conflict}
 use Rattle.names.specs.Order.{within}
 use Rattle.names.proofs.Within.{within_laws, within_level, within_itself}
-use Rattle.std.proofs.lemmas.Bool.{cond-true, cond-false, and_parts, and_from, not_from_true, not_from_false, eqb-true, eq-eqb, ne_eqb, lt-leb, leb-true, cases_lt}
-use Rattle.meaning.specs.Model.{delegates, aliases, plain, fits, Delegation, Content, Addresses, Texts, Others, AliasOf, Delegated, Set, Zone}
+use Rattle.std.proofs.lemmas.Bool.{cond-true, cond-false, and_parts, and_from, not_from_true, not_from_false, eqb-true, ne_eqb, lt-leb, cases_lt}
+use Rattle.meaning.specs.Model.{delegates, aliases, plain, fits, Content, Addresses, Texts, Others, AliasOf, Delegated, Set, Zone}
 use Rattle.meaning.specs.Says.{Speaker, ByDelegation, BySet, ByAlias, NoData, NoName, Over, time_of, says}
-use Rattle.meaning.specs.Speech.{Said, Found, AliasTo, Referred, Empty, Absent, target_of, delegation_of, said_by}
+use Rattle.meaning.specs.Speech.{delegation_of, said_by}
 use Rattle.meaning.proofs.Saying.{says_laws}
 use Rattle.protocol.specs.Words.{Name, Word, word_by, tells}
 use Rattle.protocol.specs.World.{Query}

@@ -1,5 +1,5 @@
 -- The machine's youngest question goes its whole way, word by word.
-use Rattle.std.proofs.Common.{◌≡◌, ℕ, zero, suc, ◌+◌, ◌*◌, ◌<◌, ◌≤◌, Bool, true, false, cond, not, ◌&&◌, leb, ◌⊎◌, List, [], ◌∷◌, ◌++◌, length, Some, None, Option, sym, refl, ap, ◌∙◌, subst, inl, inr, ⊎_elim, append_assoc, append-nil, mul-one, mul-add, arith, length-append}
+use Rattle.std.proofs.Common.{◌≡◌, ℕ, zero, suc, ◌+◌, ◌*◌, ◌<◌, ◌≤◌, Bool, true, false, not, List, [], ◌∷◌, ◌++◌, length, Some, None, Option, sym, refl, ap, ◌∙◌, subst, ⊎_elim, append_assoc, append-nil, mul-one, mul-add, arith, length-append}
 use mathlib.Core.List.Memᴰ
 use mathlib.Core.List.{Memᴰ}
 use Rattle.std.proofs.lemmas.Bool.{cond-true, cond-false, and_parts, and_from, le-leb}
@@ -9,27 +9,26 @@ use Rattle.meaning.specs.Model.{Delegation, Zone}
 use Rattle.meaning.specs.Says.{same}
 use Rattle.meaning.specs.Speech.{Said, Found, AliasTo, Referred, Empty, Absent}
 use Rattle.meaning.proofs.Rules.{same_so, so_same}
-use Rattle.protocol.specs.Lists.{first, kept}
+use Rattle.protocol.specs.Lists.{kept}
 use Rattle.protocol.specs.Words.{Name, Server, Word, Outcome, Next, Ends, Goes, next, tells}
-use Rattle.protocol.specs.World.{Rules, Version, Offer, Copy, Entry, World, Event, OffersOwn, Takes, current, lower, is_copy_at, copy_at, unexpired, offer, offer_own, take, until, counts, world, Brought}
+use Rattle.protocol.specs.World.{Rules, Version, Offer, Copy, Entry, World, Event, OffersOwn, Takes, current, lower, is_copy_at, copy_at, unexpired, offer, offer_own, take, until, counts, world}
 use Rattle.protocol.specs.History.{rested, oldest}
-use Rattle.protocol.specs.Walks.{End, Shows, LacksAt, TooLong, Walk, walk, by_zone, by_owners, word_said, remembered, entry_said, shown_by}
+use Rattle.protocol.specs.Walks.{End, Shows, LacksAt, TooLong, Walk, walk, by_zone, word_said, remembered, entry_said, shown_by}
 use Rattle.protocol.specs.Promise.{Lacks, Rested, AnyServer, HasCopy, price, offers_in}
-use Rattle.protocol.proofs.Lists.{some_is, some_none, first_here, first_some, first_none, kept_in}
+use Rattle.protocol.proofs.Lists.{some_is, some_none, first_here, first_some, first_none}
 use Rattle.protocol.proofs.Fetch.{lower_same}
-use Rattle.protocol.proofs.Force.{current_apex, force_now}
+use Rattle.protocol.proofs.Force.{current_apex}
 use Rattle.protocol.proofs.Live.{by_say, copy_current, price_both, offers_both}
-use Rattle.protocol.proofs.Settled.{Held, held, says_now, out_everywhere}
+use Rattle.protocol.proofs.Settled.{held, says_now, out_everywhere}
 use Rattle.protocol.proofs.Steps.{inv}
 use Rattle.protocol.proofs.Walks.{walk_lacks, walk_ends, walk_goes, walk_none, by_owner}
-use Rattle.machine.specs.Store.{one_a_key}
-use Rattle.machine.specs.Machine.{max_pending, Tried, Question, Pending, State, Answer, walk_of, servers_by, servers_after, servers_on, is_word, tried_of, is_for, pending_for, Done, standing_by, standing}
-use Rattle.machine.specs.Live.{SoundZone, Sound, answer_of, all_steps, ClearNext, ClearFrom}
-use Rattle.machine.specs.Refine.{Stands, Joint, others}
+use Rattle.machine.specs.Machine.{Tried, Question, Pending, State, walk_of, servers_by, servers_after, servers_on, is_word, tried_of, is_for, pending_for, Done, standing_by, standing}
+use Rattle.machine.specs.Live.{SoundZone, answer_of, all_steps, ClearNext, ClearFrom}
+use Rattle.machine.specs.Refine.{Joint, others}
 use Rattle.machine.proofs.Alike.{remembered_alike}
 use Rattle.machine.proofs.Asking.{Had, ask_and_hear, tried_in, tries_least}
-use Rattle.machine.proofs.Main.{Runs, runs}
-use Rattle.machine.proofs.Paths.{Source, Path, here, further, path_end, path_words, path_length, path_more, path_found, path_move, recalled}
+use Rattle.machine.proofs.Main.{runs}
+use Rattle.machine.proofs.Paths.{Source, Path, path_end, path_words, path_length, path_more, path_found, path_move, recalled}
 
 -- ---- one word, had by the machine
 

@@ -1,23 +1,22 @@
 -- Hearing in the machine is hearing in the world, after forgetting where there was no room.
-use Rattle.std.proofs.Common.{◌≡◌, ℕ, ◌+◌, ◌<◌, ◌≤◌, Bool, true, false, cond, not, ◌&&◌, eqb, ◌⊎◌, List, [], ◌∷◌, ◌++◌, map, length, get_or, set, Some, None, Ok, Err, Option, Result, sym, refl, ap, ◌∙◌, subst, inl, inr, ⊎_elim, true≢false, arith}
+use Rattle.std.proofs.Common.{◌≡◌, ℕ, ◌≤◌, Bool, true, false, not, eqb, ◌⊎◌, List, ◌∷◌, ◌++◌, length, get_or, Some, None, Ok, Err, Option, sym, refl, ap, ◌∙◌, subst, inl, inr, ⊎_elim, arith}
 use mathlib.Core.List.Memᴰ
 use mathlib.Core.List.{Memᴰ}
 use lib.ListN.{length-map}
 use Rattle.names.specs.declared.fault.Fault.{Fault}
-use Rattle.names.specs.declared.fault.Fault.TheVariants.{TooMuch, NotPending, WrongApex}
+use Rattle.names.specs.declared.fault.Fault.TheVariants.{TooMuch, WrongApex}
 use Rattle.std.proofs.lemmas.Bool.{cond-true, cond-false, and_parts, and_from, eqb-true, eq-eqb, not-true, not_from_false}
 use Rattle.meaning.specs.Says.{same}
-use Rattle.protocol.specs.Lists.{first, kept}
-use Rattle.protocol.specs.Words.{Name, Word}
-use Rattle.protocol.specs.World.{Rules, Query, Response, Entry, World, Event, Hears, Forgets, with_cache, matches, matching, closed, is_key, forgotten, entry_for, remember, hear, step, world, May, Brought}
-use Rattle.protocol.proofs.Lists.{some_is, first_some, first_found, kept_in, in_kept, any_none}
-use Rattle.protocol.proofs.Inv.{Inv}
+use Rattle.protocol.specs.Lists.{first}
+use Rattle.protocol.specs.Words.{Name}
+use Rattle.protocol.specs.World.{Rules, Query, Response, Entry, World, Event, Hears, Forgets, with_cache, matches, matching, closed, is_key, forgotten, entry_for, hear, world, Brought}
+use Rattle.protocol.proofs.Lists.{first_some, first_found, kept_in, in_kept, any_none}
 use Rattle.protocol.proofs.Steps.{inv}
-use Rattle.machine.specs.Store.{one_a_key, Put, Kept, Ousted, NoRoom, put}
+use Rattle.machine.specs.Store.{Put, Kept, Ousted, NoRoom, put}
 use Rattle.machine.specs.Machine as machine
 use Rattle.machine.specs.Machine.{Question, Pending, State, queries_of, count_try, misfit, in_use, Heard, close_in, keep, heard_by, hear_fit, hear_for}
 use Rattle.machine.specs.Refine.{SameMembers, Stands, drops, hearing}
-use Rattle.machine.proofs.Alike.{map_in, in_map, sifted}
+use Rattle.machine.proofs.Alike.{in_map, sifted}
 use Rattle.machine.proofs.Keys.{of_key, Left}
 use Rattle.machine.proofs.Refining.{ok_is, err_ok}
 use Rattle.machine.proofs.Storing.{store_laws}

@@ -1,5 +1,5 @@
 -- Tests of keys, and lists in which no two entries have one key.
-use Rattle.std.proofs.Common.{◌≡◌, ℕ, zero, suc, ◌+◌, ◌<◌, ◌≤◌, Bool, true, false, cond, not, ◌&&◌, eqb, ◌⊎◌, List, [], ◌∷◌, ◌++◌, length, get_or, set, Some, None, Option, sym, refl, ap, ◌∙◌, subst, inl, inr, ⊎_elim, true≢false, arith}
+use Rattle.std.proofs.Common.{◌≡◌, ℕ, zero, suc, ◌<◌, Bool, true, false, not, ◌&&◌, eqb, ◌⊎◌, List, [], ◌∷◌, length, get_or, set, Some, None, Option, sym, refl, ap, ◌∙◌, subst, inl, inr, ⊎_elim, true≢false, arith}
 use mathlib.Core.List.Memᴰ
 use mathlib.Core.List.{Memᴰ}
 use Rattle.std.specs.Option.{option_map}
@@ -7,8 +7,8 @@ use Rattle.std.proofs.lemmas.Bool.{cond-true, cond-false, and_parts, and_from, n
 use Rattle.meaning.specs.Says.{same}
 use Rattle.meaning.proofs.Rules.{same_so, so_same}
 use Rattle.protocol.specs.Lists.{any}
-use Rattle.protocol.specs.World.{Rules, Entry, is_key}
-use Rattle.protocol.proofs.Lists.{some_is, some_none, any_some, some_any, any_none, none_any}
+use Rattle.protocol.specs.World.{Entry, is_key}
+use Rattle.protocol.proofs.Lists.{some_is, some_none, any_none, none_any}
 use Rattle.machine.specs.Store.{place_of, one_a_key}
 
 -- ---- keys

@@ -1,13 +1,13 @@
 -- No state of the machine is a dead end.
-use Rattle.std.proofs.Common.{◌≡◌, ℕ, zero, suc, ◌+◌, ◌*◌, ◌<◌, ◌≤◌, Bool, true, false, cond, not, ◌&&◌, leb, ◌⊎◌, List, [], ◌∷◌, ◌++◌, length, Some, None, Option, sym, refl, ap, ◌∙◌, subst, inl, inr, ⊎_elim, append-nil, arith}
+use Rattle.std.proofs.Common.{◌≡◌, ℕ, zero, suc, ◌+◌, ◌*◌, ◌<◌, ◌≤◌, not, leb, ◌⊎◌, List, [], ◌∷◌, ◌++◌, length, Some, None, Option, sym, refl, ap, ◌∙◌, subst, inl, inr, ⊎_elim, append-nil, arith}
 use mathlib.Core.List.Memᴰ
 use mathlib.Core.List.{Memᴰ}
-use Rattle.std.proofs.lemmas.Bool.{cond-true, cond-false, lt-leb, leb-true}
+use Rattle.std.proofs.lemmas.Bool.{cond-false, lt-leb, leb-true}
 use Rattle.meaning.specs.Model.{Delegation}
 use Rattle.meaning.specs.Speech.{Referred}
 use Rattle.protocol.specs.Lists.{first, kept}
 use Rattle.protocol.specs.Words.{Name, Server, Word, Outcome, Next, Ends, Goes, next}
-use Rattle.protocol.specs.World.{Rules, Version, Entry, World, Event, Tick, world}
+use Rattle.protocol.specs.World.{Rules, Version, Entry, World, Event, world}
 use Rattle.protocol.specs.Walks.{End, Shows, LacksAt, TooLong, Walk, walk, by_owners, word_said, meant, remembered, entry_said, shown}
 use Rattle.protocol.specs.Promise.{Lacks, Rested, AnyServer, HasCopy, Served}
 use Rattle.protocol.proofs.Lists.{kept_in}
@@ -16,13 +16,13 @@ use Rattle.protocol.proofs.Main.{promise}
 use Rattle.protocol.proofs.Settled.{says_now, out_everywhere}
 use Rattle.protocol.proofs.Steps.{inv}
 use Rattle.protocol.proofs.Walks.{walk_lacks, walk_ends, walk_goes, walk_none}
-use Rattle.machine.specs.Machine.{max_walks, max_words, Tried, Question, Pending, State, queries_of, Answer, Answered, Endless, Nowhere, Shown, shown_as, walk_of, servers_after, servers_on, tried_of, too_many, exhausted, pending_for, Standing, Done, Awaits, Wants, lacking, standing_by, standing, with_walks, question, Began, begin_by, begin, is_open, count_all, tick}
-use Rattle.machine.specs.Live.{SoundZone, Sound, answer_of, ClearNext, ClearFrom, Clear, Answers, LiveFrom, six_ticks, six_later, MachineLive}
-use Rattle.machine.specs.Refine.{Stands, Joint, begins, ticks}
+use Rattle.machine.specs.Machine.{max_walks, Tried, Question, Pending, State, Answer, Answered, Endless, Nowhere, Shown, shown_as, walk_of, servers_after, servers_on, exhausted, pending_for, Standing, Done, Awaits, Wants, lacking, standing_by, standing, with_walks, question, Began, begin_by, begin, is_open, tick}
+use Rattle.machine.specs.Live.{Sound, answer_of, ClearNext, ClearFrom, Clear, Answers, six_ticks, six_later, MachineLive}
+use Rattle.machine.specs.Refine.{Joint, begins, ticks}
 use Rattle.machine.proofs.Alike.{in_map, remembered_alike, walk_is}
-use Rattle.machine.proofs.Going.{Step, Steps, steps_any, steps_copied, Goal, At, Tries, Going, named_next, agrees, going}
+use Rattle.machine.proofs.Going.{Steps, steps_any, steps_copied, At, Tries, named_next, going}
 use Rattle.machine.proofs.Main.{runs}
-use Rattle.machine.proofs.Paths.{Source, Path, here, further, path_end, path_words, path_more, never_full}
+use Rattle.machine.proofs.Paths.{Source, Path, here, path_end, path_words, path_more, never_full}
 use Rattle.machine.proofs.Refining.{count_length}
 use Rattle.machine.proofs.Standings.{DoneSo, by_answer, by_length, by_want, done_so}
 

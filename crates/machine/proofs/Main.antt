@@ -1,14 +1,13 @@
 -- Every sequence of calls is the resolver's part of a run of the world; so what the machine shows keeps the promise.
-use Rattle.std.proofs.Common.{◌≡◌, ℕ, ◌+◌, ◌≤◌, Bool, true, false, cond, leb, ◌⊎◌, List, [], ◌∷◌, ◌++◌, length, Some, None, Option, sym, refl, ap, ◌∙◌, subst, inl, inr, ⊎_elim, arith}
-use mathlib.Core.List.{Memᴰ}
+use Rattle.std.proofs.Common.{◌≡◌, ℕ, Bool, true, false, leb, List, [], ◌∷◌, length, Some, None, Option, sym, refl, ap, ◌∙◌, ⊎_elim, arith}
 use Rattle.std.proofs.lemmas.Bool.{cond-true, cond-false}
 use Rattle.protocol.specs.Words.{Name, Outcome}
-use Rattle.protocol.specs.World.{Rules, Entry, World, Event, step, world, Brought}
+use Rattle.protocol.specs.World.{Rules, Entry, World, Event, world, Brought}
 use Rattle.protocol.specs.Walks.{End, Shows, LacksAt, TooLong, Walk, meant, shown, least_left}
-use Rattle.protocol.specs.Promise.{Lacks, Rested, ShowsMeant, Promise}
+use Rattle.protocol.specs.Promise.{Lacks, Rested, Promise}
 use Rattle.protocol.proofs.Lists.{some_is, some_none}
 use Rattle.protocol.proofs.Main.{promise}
-use Rattle.machine.specs.Machine.{max_walks, Question, State, Answer, Answered, Endless, Nowhere, Shown, walk_of, Standing, Done, Awaits, Wants, standing, shown_as, Began, begin_by, begin, is_done, Settled, settle_on, settle_in, settle}
+use Rattle.machine.specs.Machine.{max_walks, Question, State, Answer, Answered, Endless, Nowhere, Shown, walk_of, Standing, Done, Awaits, Wants, standing, shown_as, Began, begin_by, begin, is_done, settle_on, settle_in}
 use Rattle.machine.specs.Refine.{Stands, Joint, starts, begins, settles, draws, hears, ticks, others, Showing, Refines, MachineRefines}
 use Rattle.machine.proofs.Alike.{walk_is}
 use Rattle.machine.proofs.Standings.{DoneSo, by_answer, by_length, by_want, done_so}

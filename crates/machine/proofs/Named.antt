@@ -1,16 +1,15 @@
 -- Where a walk lacks a word, its servers are those that are named for the zone, and the name is within it.
-use Rattle.std.proofs.Common.{◌≡◌, ℕ, zero, suc, ◌+◌, ◌<◌, ◌≤◌, Bool, true, false, cond, ◌&&◌, ◌⊎◌, List, [], ◌∷◌, length, Some, None, Option, sym, refl, ap, ◌∙◌, subst, inl, inr, ⊎_elim, arith}
+use Rattle.std.proofs.Common.{◌≡◌, ℕ, zero, suc, ◌<◌, true, List, [], length, Some, None, Option, sym, refl, ap, ◌∙◌, subst, arith}
 use mathlib.Core.List.{Memᴰ}
 use Rattle.names.specs.Order.{within}
 use Rattle.names.proofs.Within.{within_laws}
 use Rattle.meaning.specs.Model.{Delegation}
 use Rattle.meaning.specs.Speech.{Said, Found, AliasTo, Referred, Empty, Absent}
-use Rattle.protocol.specs.Words.{Name, Server, Word, tells, Outcome, Next, Ends, Goes, next}
+use Rattle.protocol.specs.Words.{Name, Server, Outcome, Ends, Goes, next}
 use Rattle.protocol.specs.World.{Rules, Entry, World, counts, may_ask}
-use Rattle.protocol.specs.Walks.{End, Shows, LacksAt, TooLong, Walk, walk, remembered, entry_said, shown}
-use Rattle.protocol.proofs.Force.{force_apex}
+use Rattle.protocol.specs.Walks.{Shows, LacksAt, TooLong, Walk, walk, remembered, entry_said, shown}
 use Rattle.protocol.proofs.Inv.{Inv}
-use Rattle.protocol.proofs.Settled.{Held, held}
+use Rattle.protocol.proofs.Settled.{held}
 use Rattle.protocol.proofs.Walks.{walk_lacks, walk_ends, walk_goes, walk_none}
 use Rattle.protocol.proofs.Words.{word_laws}
 use Rattle.protocol.proofs.Live.{may_ask_root, may_ask_referred}

@@ -1,18 +1,18 @@
 -- The front of a walk, up to a zone and name, and how it goes on from there; and how many words can be in use.
-use Rattle.std.proofs.Common.{◌≡◌, ℕ, zero, suc, ◌+◌, ◌*◌, ◌<◌, ◌≤◌, Bool, true, false, cond, not, ◌&&◌, eqb, ◌⊎◌, List, [], ◌∷◌, ◌++◌, length, Some, None, Option, sym, refl, ap, ◌∙◌, subst, inl, inr, ⊎_elim, true≢false, append_assoc, add-mul, arith, length-append}
+use Rattle.std.proofs.Common.{◌≡◌, ℕ, zero, suc, ◌+◌, ◌*◌, ◌<◌, ◌≤◌, Bool, true, false, not, ◌&&◌, eqb, ◌⊎◌, List, [], ◌∷◌, ◌++◌, length, Some, None, Option, sym, refl, ap, ◌∙◌, subst, inl, inr, ⊎_elim, true≢false, arith, length-append}
 use mathlib.Core.List.Memᴰ
 use mathlib.Core.List.{Memᴰ}
-use Rattle.std.proofs.lemmas.Bool.{cond-true, cond-false, not_from_false, and_from, eq-eqb}
+use Rattle.std.proofs.lemmas.Bool.{not_from_false, and_from, eq-eqb}
 use Rattle.meaning.specs.Says.{same}
 use Rattle.meaning.proofs.Rules.{so_same}
-use Rattle.protocol.specs.Lists.{kept, any}
+use Rattle.protocol.specs.Lists.{kept}
 use Rattle.protocol.specs.Words.{Name, Next, Ends, Goes, next}
 use Rattle.protocol.specs.World.{Rules, Entry, counts, is_key}
 use Rattle.protocol.specs.Walks.{Walk, walk, remembered, entry_said}
-use Rattle.protocol.proofs.Lists.{some_is, first_some, first_found, kept_here, kept_not, kept_in, in_kept, any_some}
+use Rattle.protocol.proofs.Lists.{first_found, kept_here, kept_not, in_kept, any_some}
 use Rattle.protocol.proofs.Settled.{Held, held}
 use Rattle.protocol.proofs.Walks.{walk_none, walk_lacks, walk_ends, walk_goes}
-use Rattle.machine.specs.Store.{max_entries, one_a_key, NoRoom, put}
+use Rattle.machine.specs.Store.{one_a_key}
 use Rattle.machine.specs.Machine.{Question, State, walk_of, used_by, in_use}
 use Rattle.machine.specs.Live.{NeverFull}
 use Rattle.machine.proofs.Keys.{of_key, key_so, so_key, one_tail, one_head, one_of}

@@ -1,5 +1,5 @@
 -- Each call of the machine is the resolver's part of a step of the world.
-use Rattle.std.proofs.Common.{◌≡◌, ℕ, zero, suc, ◌+◌, ◌<◌, ◌≤◌, Bool, true, false, cond, not, ◌&&◌, eqb, leb, ◌⊎◌, List, [], ◌∷◌, ◌++◌, map, length, get_or, set, Some, None, Ok, Err, Option, Result, sym, refl, ap, ◌∙◌, subst, inl, inr, ⊎_elim, true≢false, arith, length-append}
+use Rattle.std.proofs.Common.{◌≡◌, ℕ, suc, ◌+◌, ◌<◌, ◌≤◌, Bool, true, false, cond, not, ◌&&◌, leb, List, [], ◌∷◌, ◌++◌, length, get_or, Some, None, Ok, Err, Option, Result, sym, refl, ap, ◌∙◌, subst, ⊎_elim, true≢false, arith, length-append}
 use mathlib.Core.List.Memᴰ
 use mathlib.Core.List.{map-append, Memᴰ}
 use lib.ListN.{length-map}
@@ -7,24 +7,20 @@ use Rattle.std.specs.Option.{option_or}
 use Rattle.names.specs.declared.fault.Fault.{Fault}
 use Rattle.names.specs.declared.fault.Fault.TheVariants.{Malformed}
 use Rattle.names.specs.Order.{within}
-use Rattle.std.proofs.lemmas.Bool.{cond-true, cond-false, cond_both, and_parts, and_from, leb-false, eqb-true, eq-eqb, not-true, not_from_false}
+use Rattle.std.proofs.lemmas.Bool.{cond-true, cond-false, cond_both, and_from, leb-false}
 use Rattle.meaning.specs.Model.{Zone}
-use Rattle.meaning.specs.Says.{same}
-use Rattle.meaning.proofs.Rules.{same_so, so_same}
-use Rattle.protocol.specs.Lists.{first, kept, any}
-use Rattle.protocol.specs.Words.{Name, Server, Word, Outcome}
-use Rattle.protocol.specs.World.{Rules, Query, Response, Entry, World, Event, Tick, Publishes, OffersOwn, OffersCopy, Takes, Asks, Responds, Hears, Forgets, Copy, start, with_published, with_cache, with_query, current, rises, unexpired, copy_at, offer, offer_own, offer_copy, copy_says, respond, may_draw, may_ask, ask, matches, matching, closed, is_key, forgotten, entry_for, remember, query_for, step, world, May, Brought}
-use Rattle.protocol.specs.Walks.{Walk, shown}
-use Rattle.protocol.proofs.Lists.{some_is, some_none, first_some, first_found, kept_in, in_kept, any_none}
-use Rattle.protocol.proofs.Inv.{Inv}
+use Rattle.protocol.specs.Lists.{kept}
+use Rattle.protocol.specs.Words.{Name, Server, Word}
+use Rattle.protocol.specs.World.{Rules, Query, Entry, World, Event, Tick, Publishes, OffersOwn, OffersCopy, Takes, Asks, Responds, Hears, Forgets, Copy, start, with_published, with_query, current, rises, unexpired, copy_at, offer, offer_own, offer_copy, copy_says, respond, may_draw, may_ask, query_for, step, world, Brought}
+use Rattle.protocol.specs.Walks.{Walk}
+use Rattle.protocol.proofs.Lists.{some_is, some_none}
 use Rattle.protocol.proofs.Steps.{inv}
-use Rattle.machine.specs.Store.{max_entries, one_a_key, Put, Kept, Ousted, NoRoom, put}
-use Rattle.machine.specs.Machine.{max_walks, max_pending, Tried, Question, Pending, State, first_state, queries_of, Answer, Nowhere, Shown, shown_as, walk_of, servers_on, Standing, Done, Awaits, Wants, standing, with_walks, Began, begin_by, begin, is_done, Settled, settle_on, settle_in, settle, count_try, count_tries, place_for, Sent, last_of, is_waiting, send, send_for, send_on, is_pending, draw, misfit, in_use, Heard, close_in, keep, heard_by, hear_fit, hear_for, hear, is_open, count_all, tick}
-use Rattle.machine.specs.Refine.{SameMembers, Stands, is_outside, sends, drops, hearing}
-use Rattle.machine.proofs.Alike.{map_in, in_map, sifted, walk_is}
+use Rattle.machine.specs.Store.{one_a_key}
+use Rattle.machine.specs.Machine.{max_walks, max_pending, Tried, Question, Pending, State, first_state, queries_of, Answer, Nowhere, shown_as, servers_on, Standing, Done, Awaits, Wants, standing, with_walks, Began, begin_by, begin, is_done, settle_on, settle_in, settle, count_try, count_tries, place_for, Sent, last_of, is_waiting, send, send_for, send_on, is_pending, draw, is_open, count_all, tick}
+use Rattle.machine.specs.Refine.{SameMembers, Stands, is_outside, sends}
+use Rattle.machine.proofs.Alike.{sifted, walk_is}
 use Rattle.machine.proofs.Named.{ServersOf, named_at, may_ask_lem}
-use Rattle.machine.proofs.Standings.{WantsSo, wants_so, some_servers, place_below, server_at}
-use Rattle.machine.proofs.Storing.{Way, replaces, appends, ousts, cannot, way, store_laws}
+use Rattle.machine.proofs.Standings.{wants_so, some_servers, place_below, server_at}
 
 -- ---- the start, and what others do
 

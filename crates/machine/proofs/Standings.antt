@@ -1,11 +1,11 @@
 -- What it takes for a question to be done, to wait, or to want a query.
-use Rattle.std.proofs.Common.{◌≡◌, ℕ, zero, suc, ◌+◌, ◌*◌, ◌%◌, ◌<◌, ◌≤◌, Bool, true, false, cond, not, ◌&&◌, leb, ◌⊎◌, List, [], ◌∷◌, length, get_or, Some, None, Option, sym, refl, ap, ◌∙◌, subst, inl, inr, ⊎_elim, mod-lt, arith}
+use Rattle.std.proofs.Common.{◌≡◌, ℕ, zero, suc, ◌+◌, ◌*◌, ◌%◌, ◌<◌, Bool, true, false, not, ◌&&◌, List, [], ◌∷◌, length, get_or, Some, None, Option, sym, refl, subst, mod-lt, arith}
 use mathlib.Core.List.{Memᴰ}
 use Rattle.std.proofs.lemmas.Bool.{cond-true, cond-false, cond_both, leb-false}
 use Rattle.protocol.specs.Words.{Name, Server, Outcome}
-use Rattle.protocol.specs.World.{Rules, Entry}
+use Rattle.protocol.specs.World.{Rules}
 use Rattle.protocol.specs.Walks.{End, Shows, LacksAt, TooLong, least_left}
-use Rattle.machine.specs.Machine.{max_tries, Tried, Question, Pending, State, Answer, Answered, Endless, Nowhere, walk_of, servers_on, tried_of, count_of, too_many, exhausted, is_last, pending_for, Standing, Done, Awaits, Wants, lacking, standing_by, standing, is_done, place_for}
+use Rattle.machine.specs.Machine.{max_tries, Tried, Question, Pending, State, Answer, Answered, Endless, Nowhere, walk_of, servers_on, tried_of, count_of, too_many, exhausted, is_last, pending_for, Standing, Done, Awaits, Wants, lacking, standing_by, standing, place_for}
 
 -- a question that wants a query: where it lacks a word, whom it may ask, and that a try is left
 pub record WantsSo (r : Rules) (st : State) (u : Question) (a p : Name) (ss : List Server) (o : Option Tried) : Type 0 where

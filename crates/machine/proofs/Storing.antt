@@ -1,14 +1,14 @@
 -- The laws of putting an entry into the cache.
-use Rattle.std.proofs.Common.{◌≡◌, ℕ, zero, suc, ◌+◌, ◌<◌, ◌≤◌, Bool, true, false, cond, not, ◌&&◌, ◌||◌, eqb, ltb, ◌⊎◌, List, [], ◌∷◌, ◌++◌, length, get_or, set, Some, None, Option, sym, refl, ap, ◌∙◌, subst, inl, inr, ⊎_elim, true≢false, arith, length-append}
+use Rattle.std.proofs.Common.{◌≡◌, ℕ, zero, suc, ◌<◌, ◌≤◌, Bool, true, false, cond, ◌&&◌, eqb, ltb, ◌⊎◌, List, [], ◌∷◌, ◌++◌, length, get_or, set, Some, None, Option, sym, refl, ap, ◌∙◌, subst, inl, inr, ⊎_elim, true≢false, arith, length-append}
 use mathlib.Core.List.Memᴰ
 use mathlib.Core.List.{Memᴰ}
 use Rattle.std.specs.Option.{option_map}
 use Rattle.std.proofs.lemmas.Bool.{cond-true, cond-false, and_parts, or_cases, or_parts, ltb-true, ltb-false, eqb-true}
 use Rattle.protocol.specs.Lists.{any}
-use Rattle.protocol.specs.World.{Rules, Entry, until, is_key}
-use Rattle.protocol.proofs.Lists.{some_is, some_none, none_any, any_none}
+use Rattle.protocol.specs.World.{Rules, Entry, until}
+use Rattle.protocol.proofs.Lists.{none_any}
 use Rattle.machine.specs.Store.{max_entries, place_of, one_a_key, sooner, pick, soonest, Put, Kept, Ousted, NoRoom, oust, put_at, put, OustedFirst, StoreLaws}
-use Rattle.machine.proofs.Keys.{of_key, key_so, so_key, key_self, one_tail, one_head, one_more, one_of, place_none, Placed, placed_at, set_length, Left, set_in, in_set, set_one, placed, placed_self}
+use Rattle.machine.proofs.Keys.{of_key, key_so, so_key, one_tail, one_head, one_more, place_none, set_length, Left, set_in, in_set, set_one, placed, placed_self}
 
 -- ---- the one that runs out first
 

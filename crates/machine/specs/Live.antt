@@ -1,14 +1,14 @@
 -- No state of the machine is a dead end: what is promised of the machine itself. Assumes nothing.
-use Rattle.std.specs.Prelude.{◌≡◌, ℕ, zero, suc, ◌+◌, ◌*◌, ◌<◌, ◌≤◌, Bool, true, false, ◌&&◌, ◌⊎◌, List, [], ◌∷◌, ◌++◌, length, Some, None, Option, ◌≢◌}
+use Rattle.std.specs.Prelude.{◌≡◌, ℕ, zero, suc, ◌*◌, ◌<◌, ◌≤◌, Bool, true, false, ◌&&◌, ◌⊎◌, List, [], ◌∷◌, ◌++◌, length, Some, None, Option, ◌≢◌}
 use mathlib.Core.List.{Memᴰ}
 use Rattle.names.specs.Order.{within}
 use Rattle.meaning.specs.Model.{delegates, fits, Set, Zone}
-use Rattle.protocol.specs.Words.{Name, Server, Word, Next, Ends, Goes, next}
+use Rattle.protocol.specs.Words.{Name, Server, Word, Goes, next}
 use Rattle.protocol.specs.World.{Rules, Version, Entry, World, Event, Tick, Publishes, OffersOwn, OffersCopy, Takes, Asks, Responds, Hears, Forgets, world}
 use Rattle.protocol.specs.Walks.{End, Shows, LacksAt, TooLong, by_owners, meant}
 use Rattle.protocol.specs.Promise.{Lacks, Rested, AnyServer, HasCopy, Served, price, offers_in}
 use Rattle.machine.specs.Store.{NoRoom, put}
-use Rattle.machine.specs.Machine.{max_walks, max_pending, Question, Pending, State, Answer, Answered, Endless, Nowhere, Shown, pending_for, Standing, Done, standing, in_use, question, begin, tick}
+use Rattle.machine.specs.Machine.{max_walks, max_pending, Question, Pending, State, Answer, Answered, Endless, Nowhere, Shown, pending_for, Done, standing, in_use, question, begin, tick}
 use Rattle.machine.specs.Refine.{Joint}
 
 -- a zone as its type has it: data fit their kinds, all is within the apex, and no delegation stands at the apex

@@ -1,15 +1,15 @@
 -- The resolver as a machine: its state, and what each call makes of it. Assumes nothing.
-use Rattle.std.specs.Prelude.{ℕ, ◌+◌, ◌*◌, ◌%◌, Bool, true, false, cond, not, ◌&&◌, ◌||◌, List, [], ◌∷◌, ◌++◌, map, length, is_some, Some, None, Ok, Err, Option, Result, ◌==◌, nat_eq, nat_le, nat_lt, slice_index_or}
+use Rattle.std.specs.Prelude.{ℕ, ◌+◌, ◌*◌, ◌%◌, Bool, true, false, cond, not, ◌&&◌, List, [], ◌∷◌, ◌++◌, map, length, Some, None, Ok, Err, Option, Result, ◌==◌, nat_eq, nat_le, nat_lt, slice_index_or}
 use Rattle.std.specs.Option.{option_or}
 use Rattle.names.specs.declared.fault.Fault.{Fault}
 use Rattle.names.specs.declared.fault.Fault.TheVariants.{Malformed, BadData, Misplaced, Conflict, TooMuch, NotPending, WrongApex}
 use Rattle.names.specs.Order.{within}
-use Rattle.meaning.specs.Model.{delegates, aliases, fits, Delegation, Content}
+use Rattle.meaning.specs.Model.{delegates, aliases, fits}
 use Rattle.meaning.specs.Says.{same}
 use Rattle.meaning.specs.Speech.{Said, Found, AliasTo, Referred, Empty, Absent}
 use Rattle.protocol.specs.Lists.{first, kept, any}
 use Rattle.protocol.specs.Words.{Name, Server, Word, Outcome}
-use Rattle.protocol.specs.World.{Rules, Query, Response, Entry, counts, is_key, entry_for, query_for}
+use Rattle.protocol.specs.World.{Rules, Query, Response, Entry, is_key, entry_for, query_for}
 use Rattle.protocol.specs.Walks.{End, Shows, LacksAt, TooLong, Walk, shown_by, least_left}
 use Rattle.machine.specs.Store.{Put, Kept, Ousted, NoRoom, put}
 

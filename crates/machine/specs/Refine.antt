@@ -1,13 +1,13 @@
 -- The machine in the world: which states of the world a state of the machine stands for, and their runs together. Assumes nothing.
-use Rattle.std.specs.Prelude.{◌≡◌, ℕ, ◌≤◌, Bool, true, false, ◌⊎◌, List, [], ◌∷◌, ◌++◌, length, Some, None, Ok, Option, nat_eq, slice_index_or}
+use Rattle.std.specs.Prelude.{◌≡◌, ℕ, ◌≤◌, Bool, true, false, List, [], ◌∷◌, ◌++◌, length, Some, None, Ok, Option, nat_eq, slice_index_or}
 use mathlib.Core.List.{Memᴰ}
 use Rattle.protocol.specs.Lists.{first}
-use Rattle.protocol.specs.Words.{Name, Outcome}
-use Rattle.protocol.specs.World.{Rules, Query, Response, Entry, World, Event, Tick, Publishes, OffersOwn, OffersCopy, Takes, Asks, Responds, Hears, Forgets, until, may_draw, entry_for, world, May, Brought}
+use Rattle.protocol.specs.Words.{Outcome}
+use Rattle.protocol.specs.World.{Rules, Query, Response, Entry, World, Event, Tick, Publishes, OffersOwn, OffersCopy, Takes, Asks, Responds, Hears, Forgets, may_draw, entry_for, world, May, Brought}
 use Rattle.protocol.specs.Walks.{Shows, TooLong, meant, shown, least_left}
 use Rattle.protocol.specs.Promise.{Fresh, Rested, Promise}
 use Rattle.machine.specs.Store.{max_entries, one_a_key, Put, Kept, Ousted, NoRoom, put}
-use Rattle.machine.specs.Machine.{max_walks, Question, Pending, State, first_state, queries_of, Answer, Answered, Endless, Nowhere, Shown, Began, begin, settle, Sent, draw, in_use, Heard, hear, tick}
+use Rattle.machine.specs.Machine.{max_walks, Question, Pending, State, first_state, queries_of, Answered, Endless, Nowhere, Shown, begin, settle, Sent, draw, in_use, Heard, hear, tick}
 
 abbrev pub SameMembers : {A : Type 0} → List A → List A → Type 0
 SameMembers {A} xs ys = (x : A) → (Memᴰ x xs → Memᴰ x ys) × (Memᴰ x ys → Memᴰ x xs)

@@ -1,5 +1,5 @@
 -- How long record sets are in a transfer.
-use Rattle.std.proofs.Common.{◌≡◌, ℕ, ◌+◌, List, [], ◌∷◌, ◌++◌, length, refl, arith, length-append}
+use Rattle.std.proofs.Common.{◌≡◌, ◌+◌, List, [], ◌∷◌, ◌++◌, length, refl, arith, length-append}
 use Rattle.names.specs.Wire.{wire_labels, wire}
 use Rattle.meaning.specs.Model.{Set}
 use Rattle.meaning.specs.Transfer.{pieces, four_bytes, transferred, all_transferred}

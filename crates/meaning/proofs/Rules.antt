@@ -1,11 +1,11 @@
 -- The function and the rules say the same, and the rules have one answer.
-use Rattle.std.proofs.Common.{◌≡◌, ℕ, ◌<◌, ◌≤◌, Bool, true, false, cond, ◌&&◌, eqb, ltb, leb, ◌⊎◌, List, [], ◌∷◌, length, Some, None, Option, sym, refl, ap, ◌∙◌, subst, inl, inr, ⊎_elim, true≢false, arith}
+use Rattle.std.proofs.Common.{◌≡◌, ℕ, ◌<◌, ◌≤◌, Bool, true, cond, ◌&&◌, eqb, ltb, List, length, Some, None, Option, sym, refl, ap, ◌∙◌, subst, ⊎_elim, arith}
 use mathlib.Core.List.{Memᴰ}
 use Rattle.std.proofs.lemmas.Bool.{and_parts, and_from, eqb-true, eq-eqb, ltb-true, lt-ltb}
 use Rattle.names.specs.Order.{within}
 use Rattle.names.proofs.Within.{within_laws, within_level, within_itself}
 use Rattle.meaning.specs.Model.{delegates, aliases, Set, Zone}
-use Rattle.meaning.specs.Says.{Speaker, ByDelegation, BySet, ByAlias, NoData, NoName, Over, Exactly, AliasAt, Under, No, Rule, refers, tells, points, empty, absent, same, is_over, is_exactly, is_alias_at, find, highest, any_under, or_else, speaker, says, Distinct, SameSets, SaysMeans}
+use Rattle.meaning.specs.Says.{Speaker, ByDelegation, BySet, ByAlias, NoData, NoName, Over, Exactly, AliasAt, No, Rule, refers, tells, points, empty, absent, same, is_over, is_exactly, is_alias_at, find, highest, any_under, or_else, speaker, says, Distinct, SameSets, SaysMeans}
 use Rattle.meaning.proofs.Finding.{Found, some, none, finds, Highest, high, none_high, finds_highest, Below, one, no_one, looks_below}
 
 -- ---- tests and what they say

@@ -1,15 +1,15 @@
 -- The laws of what a zone says.
-use Rattle.std.proofs.Common.{◌≡◌, ℕ, ◌+◌, ◌<◌, ◌≤◌, Bool, true, false, cond, not, ◌&&◌, eqb, ◌⊎◌, List, [], ◌∷◌, length, Some, None, Option, sym, refl, ap, ◌∙◌, subst, inl, inr, ⊎_elim, true≢false, arith, length-append}
+use Rattle.std.proofs.Common.{◌≡◌, ℕ, ◌<◌, ◌≤◌, Bool, true, false, cond, not, ◌&&◌, eqb, ◌⊎◌, List, [], ◌∷◌, length, Some, None, Option, sym, refl, ap, ◌∙◌, subst, inl, inr, ⊎_elim, true≢false, arith, length-append}
 use mathlib.Core.List.Memᴰ
 use mathlib.Core.List.{Memᴰ}
-use Rattle.std.proofs.lemmas.Bool.{cond-true, cond-false, and_from, and_parts, eqb-true, eq-eqb, not_from_true, not_from_false, not-true, not-false, cases_lt}
+use Rattle.std.proofs.lemmas.Bool.{cond-true, cond-false, and_from, eqb-true, eq-eqb, not_from_true, not_from_false, cases_lt}
 use Rattle.names.specs.Order.{within}
 use Rattle.names.proofs.Within.{within_laws, within_itself}
-use Rattle.meaning.specs.Model.{delegates, aliases, Set, Zone}
-use Rattle.meaning.specs.Says.{Speaker, ByDelegation, BySet, ByAlias, NoData, NoName, Over, Exactly, AliasAt, Under, No, Rule, refers, tells, points, empty, absent, same, is_over, highest, speaker, says, Distinct}
+use Rattle.meaning.specs.Model.{Set, Zone}
+use Rattle.meaning.specs.Says.{Speaker, ByDelegation, BySet, ByAlias, NoName, Over, Exactly, AliasAt, Under, No, Rule, refers, tells, points, empty, absent, same, is_over, highest, speaker, says, Distinct}
 use Rattle.meaning.specs.Laws.{is_other, is_hidden, keep, unhidden, SaysLaws}
 use Rattle.meaning.proofs.Finding.{Highest, high, none_high, finds_highest}
-use Rattle.meaning.proofs.Rules.{sound, unique, one_above, so_over, over_so, same_so, so_same}
+use Rattle.meaning.proofs.Rules.{sound, unique, one_above, so_over, over_so, so_same}
 
 -- ---- a rule for each answer
 

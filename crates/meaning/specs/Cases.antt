@@ -1,7 +1,7 @@
 -- The worked cases, as rows of one table.
-use Rattle.std.specs.Prelude.{◌≡◌, ℕ, List, [], ◌∷◌, Some, codes, Option}
+use Rattle.std.specs.Prelude.{◌≡◌, ℕ, List, [], ◌∷◌, Some, codes}
 use Rattle.std.specs.List.{AllByRecursion as All}
-use Rattle.meaning.specs.Model.{Content, Addresses, AliasOf, Delegated, Set, Zone}
+use Rattle.meaning.specs.Model.{Addresses, AliasOf, Delegated, Set, Zone}
 use Rattle.meaning.specs.Says.{Speaker, ByDelegation, BySet, ByAlias, NoData, NoName, says}
 
 -- a row: what is asked of which definition, and what it answers

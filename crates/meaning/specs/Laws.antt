@@ -1,9 +1,9 @@
 -- The laws of what a zone says, for the layers above, which never look into `says`.
-use Rattle.std.specs.Prelude.{◌≡◌, ℕ, ◌<◌, Bool, true, false, cond, not, ◌&&◌, List, [], ◌∷◌, length, Some, None, Option, ◌==◌, ◌≢◌}
+use Rattle.std.specs.Prelude.{◌≡◌, ℕ, Bool, true, false, cond, not, ◌&&◌, List, [], ◌∷◌, Some, None, Option, ◌==◌, ◌≢◌}
 use mathlib.Core.List.{Memᴰ}
 use Rattle.names.specs.Order.{within}
-use Rattle.meaning.specs.Model.{delegates, aliases, Set, Zone}
-use Rattle.meaning.specs.Says.{Speaker, ByDelegation, BySet, ByAlias, NoData, NoName, Over, AliasAt, No, same, is_over, highest, says, Distinct}
+use Rattle.meaning.specs.Model.{Set, Zone}
+use Rattle.meaning.specs.Says.{Speaker, ByDelegation, BySet, ByAlias, NoName, Over, AliasAt, No, same, is_over, highest, says, Distinct}
 
 -- ---- sets that are never told
 

@@ -1,7 +1,7 @@
 -- What a zone says of a name and a kind. Assumes nothing.
 use Rattle.std.specs.Prelude.{◌≡◌, ℕ, ◌<◌, ◌≤◌, Bool, true, false, cond, ◌&&◌, ◌||◌, List, [], ◌∷◌, length, Some, None, Option, ◌==◌, nat_le, nat_lt}
 use mathlib.Core.List.{Memᴰ}
-use Rattle.names.specs.Order.{same_label, within}
+use Rattle.names.specs.Order.{within}
 use Rattle.meaning.specs.Model.{delegates, aliases, Content, Set, Zone}
 
 -- what spoke; what it says, and for how long that may be remembered, follow from it

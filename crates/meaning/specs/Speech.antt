@@ -1,5 +1,5 @@
 -- What is said, taken apart: an alias gives a name, a delegation its servers. Assumes nothing.
-use Rattle.std.specs.Prelude.{ℕ, Bool, cond, List, []}
+use Rattle.std.specs.Prelude.{ℕ, cond, List, []}
 use Rattle.meaning.specs.Model.{Delegation, Content, Addresses, Texts, Others, AliasOf, Delegated, Set}
 use Rattle.meaning.specs.Says.{Speaker, ByDelegation, BySet, ByAlias, NoData, NoName, is_exactly, is_alias_at, find, any_under, or_else}
 

@@ -1,7 +1,7 @@
 -- Writing behind what is there, piece by piece.
-use Rattle.std.proofs.Common.{◌≡◌, ℕ, ◌+◌, ◌<◌, ◌≤◌, true, false, cond, List, [], ◌∷◌, ◌++◌, length, get_or, take, is_ok, Ok, Err, Result, sym, refl, ap, ◌∙◌, subst, true≢false, append_assoc, append-nil, arith}
+use Rattle.std.proofs.Common.{◌≡◌, ℕ, ◌+◌, ◌<◌, ◌≤◌, true, false, cond, List, [], ◌∷◌, ◌++◌, length, get_or, take, is_ok, Ok, Err, Result, sym, ap, ◌∙◌, subst, true≢false, append_assoc, append-nil, arith}
 use Rattle.std.proofs.lemmas.List.{take_at, take_more, take_all}
-use Rattle.names.specs.Labels.{proper_labels, proper_label}
+use Rattle.names.specs.Labels.{proper_labels}
 use Rattle.names.specs.Wire.{wire_labels, wire, Appends}
 use Rattle.names.proofs.Push.{label_length}
 use Rattle.names.proofs.Shown.{label_proper}

@@ -1,10 +1,10 @@
 -- What holds of every name, by its fields: its labels, where they lie, and their limits.
-use Rattle.std.proofs.Common.{◌≡◌, ℕ, zero, suc, ◌+◌, ◌-◌, ◌<◌, ◌≤◌, true, List, [], ◌∷◌, ◌++◌, length, get_or, take, sym, refl, ap, ◌∙◌, subst, add-one, arith}
+use Rattle.std.proofs.Common.{◌≡◌, ℕ, zero, suc, ◌+◌, ◌<◌, ◌≤◌, true, List, [], ◌∷◌, length, get_or, take, sym, refl, ap, ◌∙◌, subst, add-one, arith}
 use Rattle.std.specs.List.{between}
 use Rattle.std.proofs.lemmas.List.{length-take-le, get_or-take}
 use Rattle.names.specs.declared.name.Name.{Name}
 use Rattle.names.specs.Labels.{proper}
-use Rattle.names.specs.Layout.{pieces, rising, start_at}
+use Rattle.names.specs.Layout.{start_at}
 use Rattle.names.specs.Names.{labels}
 use Rattle.names.proofs.Pieces.{length_pieces, piece_at, rising_room, rising_at}
 use Rattle.names.proofs.Proper.{weight, weight_pieces}

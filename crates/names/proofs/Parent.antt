@@ -1,5 +1,5 @@
 -- One label less: the block of the name above, and that the root has none.
-use Rattle.std.proofs.Common.{◌≡◌, ℕ, ◌+◌, ◌-◌, ◌<◌, ◌≤◌, true, List, [], ◌∷◌, ◌++◌, length, take, drop, Some, None, sym, refl, ap, ◌∙◌, arith}
+use Rattle.std.proofs.Common.{◌≡◌, ℕ, ◌+◌, ◌≤◌, true, List, [], ◌∷◌, length, take, drop, Some, None, sym, refl, ap, ◌∙◌, arith}
 use Rattle.std.proofs.lemmas.List.{take-take, take-append-drop}
 use Rattle.names.specs.declared.name.Name.{Name}
 use Rattle.names.specs.Labels.{proper}
@@ -7,7 +7,7 @@ use Rattle.names.specs.Layout.{pieces, rising}
 use Rattle.names.specs.Names.{labels, parent_of}
 use Rattle.names.proofs.Pieces.{pieces_take, rising_take}
 use Rattle.names.proofs.Proper.{proper_front}
-use Rattle.names.proofs.Laws.{count_is, labels_proper}
+use Rattle.names.proofs.Laws.{labels_proper}
 
 module _ (n : Name) (m : ℕ) (few : m ≤ n.count) where
   fewer : take m (take n.count n.ends) ≡ take m n.ends

@@ -1,9 +1,8 @@
 -- Texts cut at their dots: one cut at the last dot, and joining what was cut.
-use Rattle.std.proofs.Common.{◌≡◌, ℕ, ◌+◌, ◌<◌, ◌≤◌, Bool, true, false, cond, not, ◌&&◌, eqb, List, [], ◌∷◌, ◌++◌, reverse, length, get_or, take, drop, sym, refl, ap, ◌∙◌, subst, true≢false, arith}
-use mathlib.Core.List.{reverse-cons, reverse-append, reverse-reverse}
+use Rattle.std.proofs.Common.{◌≡◌, ℕ, ◌+◌, ◌<◌, ◌≤◌, Bool, true, false, cond, not, eqb, List, [], ◌∷◌, ◌++◌, reverse, length, get_or, take, drop, sym, refl, ap, ◌∙◌}
+use mathlib.Core.List.{reverse-append}
 use Rattle.std.proofs.lemmas.List.{drop_more, drop_all, take-append-drop}
-use Rattle.std.proofs.lemmas.Bool.{and_parts, and_from, not-true, not_from_false, cond-true, cond-false, eqb-true, eq-eqb, ne_eqb}
-use Rattle.names.specs.Labels.{dotted}
+use Rattle.std.proofs.lemmas.Bool.{and_parts, and_from, not-true, not_from_false, cond-false, ne_eqb}
 use Rattle.names.specs.Reading.{first_piece, more_pieces, labels_in, dotless}
 
 -- ---- a piece has no dot

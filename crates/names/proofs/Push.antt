@@ -1,5 +1,5 @@
 -- One label more, as it is written into the block: the invariant, and what the block stands for then.
-use Rattle.std.proofs.Common.{◌≡◌, ℕ, ◌+◌, ◌-◌, ◌<◌, ◌≤◌, Bool, true, false, cond, ◌&&◌, leb, List, [], ◌∷◌, ◌++◌, length, get_or, take, set, Ok, Err, sym, refl, ap, ◌∙◌, true≢false, arith, length-append, rules}
+use Rattle.std.proofs.Common.{◌≡◌, ℕ, ◌+◌, ◌-◌, ◌<◌, ◌≤◌, Bool, true, false, ◌&&◌, leb, List, [], ◌∷◌, ◌++◌, length, get_or, take, set, Ok, Err, sym, refl, ap, ◌∙◌, true≢false, arith, length-append, rules}
 use Rattle.std.specs.List.{between}
 use borrow.Rule.Slice.PartMut.{put_mid}
 use Rattle.std.proofs.lemmas.List.{take_more_set, length-set, places}
@@ -11,7 +11,7 @@ use Rattle.names.specs.Labels.{label_bytes, proper_label, proper_labels, proper}
 use Rattle.names.specs.Layout.{pieces, rising, start_at}
 use Rattle.names.specs.Names.{labels, name_of}
 use Rattle.names.proofs.Pieces.{pieces_push, pieces_same, rising_push}
-use Rattle.names.proofs.Proper.{weight, weight_append, Limits, limits, proper_from, labels_append, labels_both}
+use Rattle.names.proofs.Proper.{weight, weight_append, limits, proper_from, labels_append, labels_both}
 use Rattle.names.proofs.Laws.{count_is, labels_proper, start_used, used, used_length, weight_is}
 
 -- ---- which labels may be added

@@ -1,15 +1,15 @@
 -- Reading what was written, and writing what was read.
-use Rattle.std.proofs.Common.{◌≡◌, ℕ, zero, suc, ◌+◌, ◌-◌, ◌<◌, ◌≤◌, Bool, true, false, cond, not, ◌&&◌, eqb, leb, ◌⊎◌, List, [], ◌∷◌, ◌++◌, reverse, length, get_or, take, Ok, Err, sym, refl, ap, ◌∙◌, subst, inl, inr, ⊎_elim, true≢false, append_assoc, arith, length-append}
+use Rattle.std.proofs.Common.{◌≡◌, ℕ, zero, suc, ◌+◌, ◌-◌, ◌<◌, Bool, true, false, cond, not, ◌&&◌, eqb, leb, ◌⊎◌, List, [], ◌∷◌, ◌++◌, reverse, length, get_or, take, Ok, sym, refl, ap, ◌∙◌, inl, inr, true≢false, append_assoc, arith, length-append}
 use mathlib.Core.List.{reverse-cons, reverse-reverse}
 use Rattle.std.proofs.lemmas.List.{take_more, take_all, take_at, get_or_at, get_or-append_right, length_push}
-use Rattle.std.proofs.lemmas.Bool.{and_parts, and_from, and_right, and_left, eqb-true, ne_eqb, eq-eqb, cond-true, cond-false, not-true}
+use Rattle.std.proofs.lemmas.Bool.{and_parts, and_from, and_right, and_left, eqb-true, ne_eqb, eq-eqb, not-true}
 use Rattle.std.proofs.lemmas.Bool.Decides.{nat_tests}
 use Rattle.names.specs.Labels.{label_byte, label_bytes, proper_label, proper_labels, dotted, written, proper}
 use Rattle.names.specs.Names.{name_of}
 use Rattle.names.specs.Reading.{first_piece, more_pieces, labels_in, dotless, last_dot, is_dot, read_name, read_below, WrittenLaws}
 use Rattle.names.proofs.Extend.{named_so}
 use Rattle.names.proofs.Pieced.{labels_cut, labels_one}
-use Rattle.names.proofs.Proper.{Limits, limits, labels_append}
+use Rattle.names.proofs.Proper.{limits, labels_append}
 use Rattle.names.proofs.Push.{label_length, named}
 use Rattle.names.proofs.Readings.{read_dot, read_labels, below_dot, below_whole, below_short, last_there}
 

@@ -1,5 +1,5 @@
 -- Labels and names as lists: which are proper, and how they are written. Assumes nothing.
-use Rattle.std.specs.Prelude.{ℕ, Bool, true, false, ◌&&◌, ◌||◌, List, [], ◌∷◌, ◌++◌, reverse, length, ◌==◌, nat_le}
+use Rattle.std.specs.Prelude.{ℕ, Bool, true, ◌&&◌, ◌||◌, List, [], ◌∷◌, ◌++◌, reverse, length, ◌==◌, nat_le}
 
 -- a small letter, a digit or a hyphen
 abbrev pub label_byte : ℕ → Bool

@@ -102,13 +102,13 @@ fn print_case(rt: &HostRuntime, heap: Global, line: &[u8]) -> io::Result<()> {
     let form = words.next().unwrap_or(b"");
     let first = words.next().unwrap_or(b"");
     let second = words.next().unwrap_or(b"");
-    if form == b"read" {
+    if form == b"read".as_slice() {
         print_name(rt, Name::read(first))
-    } else if form == b"whole" {
+    } else if form == b"whole".as_slice() {
         print_name(rt, Name::read_whole(first))
-    } else if form == b"wire" {
+    } else if form == b"wire".as_slice() {
         print_wire(rt, heap, hex_bytes(heap, first)?.as_slice())
-    } else if form == b"below" {
+    } else if form == b"below".as_slice() {
         print_below(rt, first, second)
     } else {
         print_order(rt, first, second)

@@ -1,18 +1,18 @@
 -- A run in which the bound on the age of words is reached.
-use Rattle.std.proofs.Common.{◌≡◌, ℕ, zero, suc, ◌+◌, ◌<◌, ◌≤◌, Bool, true, false, cond, ◌&&◌, ltb, leb, ◌⊎◌, List, [], ◌∷◌, ◌++◌, Some, None, codes, Option, sym, refl, ap, ◌∙◌, subst, inl, inr, ⊎_elim, true≢false, arith}
+use Rattle.std.proofs.Common.{◌≡◌, ℕ, zero, suc, ◌+◌, ◌<◌, ◌≤◌, Bool, true, false, cond, ◌&&◌, ltb, leb, List, [], ◌∷◌, ◌++◌, Some, None, codes, sym, refl, ap, ◌∙◌, subst, ⊎_elim, true≢false, arith}
 use mathlib.Core.List.Memᴰ
 use mathlib.Core.List.{Memᴰ}
 use Rattle.std.proofs.lemmas.Bool.{cond-true, cond-false, le-leb, lt-leb, le-ltb, and_from, and_left}
 use Rattle.names.specs.Order.{within}
-use Rattle.meaning.specs.Model.{Content, Texts, Set, Zone}
+use Rattle.meaning.specs.Model.{Content, Texts, Zone}
 use Rattle.meaning.specs.Says.{same, find, highest, any_under, speaker, says}
-use Rattle.meaning.specs.Speech.{Said, Found}
+use Rattle.meaning.specs.Speech.{Found}
 use Rattle.meaning.proofs.Rules.{so_same}
 use Rattle.protocol.specs.Lists.{first, kept, any}
-use Rattle.protocol.specs.Words.{Name, Server, Word, tells, Told, Ends, next}
-use Rattle.protocol.specs.World.{Rules, rules_of, Version, Offer, Copy, Query, Response, Entry, World, Event, Tick, Publishes, OffersOwn, Takes, Asks, Responds, Hears, with_time, with_query, with_responses, with_cache, current, unexpired, copy_says, respond, until, counts, is_key, matching, entry_for, hear, query_for, ask, step, world, Brought}
+use Rattle.protocol.specs.Words.{Name, Server, Word, tells, Told, next}
+use Rattle.protocol.specs.World.{Rules, rules_of, Version, Offer, Copy, Query, Response, Entry, World, Event, Tick, Publishes, OffersOwn, Takes, Asks, Responds, Hears, with_time, with_query, with_responses, with_cache, current, unexpired, copy_says, respond, counts, is_key, entry_for, query_for, ask, step, world, Brought}
 use Rattle.protocol.specs.History.{in_force, longest, oldest, SaidSince}
-use Rattle.protocol.specs.Walks.{Shows, LacksAt, Walk, walk, by_owners, word_said, meant, remembered, entry_said, shown}
+use Rattle.protocol.specs.Walks.{Shows, LacksAt, Walk, by_owners, word_said, meant, remembered, entry_said, shown}
 use Rattle.protocol.specs.Promise.{Exact, BoundExact}
 use Rattle.protocol.proofs.Lists.{some_is, kept_all, first_here, first_there}
 use Rattle.protocol.proofs.Force.{Forced, newest, earlier, of_others, forced, unforced, none_forced}

@@ -1,21 +1,20 @@
 -- A wanted word is had by one query, response and hearing, after a copying where one is needed; what is remembered stays.
-use Rattle.std.proofs.Common.{◌≡◌, ℕ, zero, suc, ◌+◌, ◌*◌, ◌<◌, ◌≤◌, Bool, true, false, cond, not, ◌&&◌, eqb, ltb, leb, ◌⊎◌, List, [], ◌∷◌, ◌++◌, length, Some, None, Option, sym, refl, ap, ◌∙◌, subst, inl, inr, ⊎_elim, true≢false, arith}
+use Rattle.std.proofs.Common.{◌≡◌, ℕ, ◌+◌, ◌<◌, ◌≤◌, true, false, not, ◌&&◌, eqb, ltb, List, [], ◌∷◌, ◌++◌, Some, None, sym, refl, ap, ◌∙◌, subst, ⊎_elim, arith}
 use mathlib.Core.List.Memᴰ
 use mathlib.Core.List.{Memᴰ}
-use Rattle.std.proofs.lemmas.Bool.{cond-true, cond-false, cond_both, and_parts, and_from, not_from_true, not_from_false, leb-true, le-leb, eqb-true, eq-eqb, ne_eqb, ltb-true, ltb-false}
+use Rattle.std.proofs.lemmas.Bool.{cond-true, cond_both, and_parts, and_from, not_from_false, le-leb, eq-eqb, ne_eqb}
 use Rattle.names.specs.Order.{same_label, within}
 use Rattle.names.proofs.Within.{label_same}
 use Rattle.meaning.specs.Model.{Zone}
 use Rattle.meaning.specs.Says.{same}
 use Rattle.meaning.proofs.Rules.{same_so, so_same}
-use Rattle.protocol.specs.Lists.{first, kept}
+use Rattle.protocol.specs.Lists.{kept}
 use Rattle.protocol.specs.Words.{Name, Server, Word, tells}
-use Rattle.protocol.specs.World.{Rules, Version, Offer, Copy, Query, Response, Entry, World, Event, OffersOwn, Takes, Asks, Responds, Hears, with_offered, with_copies, with_query, with_responses, with_cache, current, lower, is_copy_at, copy_at, with_copy, unexpired, offer, offer_own, take, copy_says, respond, drawn, until, counts, may_ask, may_draw, ask, matches, matching, closed, is_key, forgotten, entry_for, remember, hear, query_for, step, world, May, Brought}
-use Rattle.protocol.specs.Walks.{LacksAt, remembered, shown_by, shown}
-use Rattle.protocol.specs.Promise.{all_moves, price, offers_in, Wanted, AllWanted, AnyServer, HasCopy}
-use Rattle.protocol.proofs.Lists.{first_here, first_there, first_some, first_none, first_kept, none_any}
+use Rattle.protocol.specs.World.{Rules, Offer, Copy, Query, Response, World, Event, OffersOwn, Takes, Asks, Responds, Hears, with_query, with_responses, current, lower, is_copy_at, copy_at, unexpired, offer, offer_own, take, copy_says, respond, drawn, may_ask, may_draw, matches, matching, forgotten, entry_for, remember, hear, query_for, world, Brought}
+use Rattle.protocol.specs.Walks.{LacksAt, shown}
+use Rattle.protocol.specs.Promise.{all_moves, price, offers_in, AllWanted, AnyServer, HasCopy}
+use Rattle.protocol.proofs.Lists.{first_here, first_some, none_any}
 use Rattle.protocol.proofs.Force.{current_apex}
-use Rattle.protocol.proofs.Settled.{held}
 use Rattle.protocol.proofs.Words.{word_laws}
 
 -- ---- an id that was never drawn

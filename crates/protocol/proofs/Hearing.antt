@@ -1,5 +1,5 @@
 -- What hearing and asking do, and what they leave.
-use Rattle.std.proofs.Common.{◌≡◌, ℕ, ◌+◌, ◌<◌, ◌≤◌, Bool, true, false, cond, not, ◌&&◌, eqb, leb, ◌⊎◌, List, [], ◌∷◌, length, Some, None, Option, sym, refl, ap, ◌∙◌, subst, inl, inr, ⊎_elim, arith}
+use Rattle.std.proofs.Common.{◌≡◌, ℕ, ◌+◌, ◌≤◌, Bool, true, false, not, ◌&&◌, eqb, leb, ◌⊎◌, List, [], ◌∷◌, length, Some, None, Option, sym, refl, ap, ◌∙◌, subst, inl, inr, arith}
 use mathlib.Core.List.{Memᴰ}
 use Rattle.std.proofs.lemmas.Bool.{cond-true, cond-false, and_parts, not-true, leb-true, eqb-true, eqb-false}
 use Rattle.names.specs.Order.{same_label, within}
@@ -8,10 +8,10 @@ use Rattle.meaning.specs.Model.{Delegation}
 use Rattle.meaning.specs.Says.{same}
 use Rattle.meaning.specs.Speech.{Said, Found, AliasTo, Referred, Empty, Absent}
 use Rattle.meaning.proofs.Rules.{same_so}
-use Rattle.protocol.specs.Words.{Name, Server, Word}
-use Rattle.protocol.specs.World.{Rules, Query, Response, Entry, World, Tick, Asks, Hears, with_query, is_server, drawn, counts, names_server, knows, may_ask, may_draw, ask, matches, matching, closed, remember, hear, query_for, step}
+use Rattle.protocol.specs.Words.{Name, Server}
+use Rattle.protocol.specs.World.{Rules, Query, Response, Entry, World, Tick, Asks, Hears, with_query, is_server, drawn, counts, names_server, knows, may_ask, may_draw, matches, matching, hear, query_for, step}
 use Rattle.protocol.specs.Promise.{HearLaws, NamedServer, AskLaw}
-use Rattle.protocol.proofs.Lists.{first_some, kept_in, any_some, some_none}
+use Rattle.protocol.proofs.Lists.{first_some, kept_in, any_some}
 
 unmatched : (r : Rules) (w : World) (x : Response) → ((q : Query) → Memᴰ q w.pending → q.id ≡ x.id → q.apex ≡ x.apex → ⊥) → step r (Hears x) w ≡ w
 unmatched r w x none = go (matching x w.pending) refl

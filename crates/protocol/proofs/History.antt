@@ -1,16 +1,15 @@
 -- Tests over the history mean what the run says; and serials name versions.
-use Rattle.std.proofs.Common.{◌≡◌, ℕ, ◌+◌, ◌<◌, ◌≤◌, Bool, true, false, cond, ltb, leb, ◌⊎◌, List, [], ◌∷◌, ◌++◌, Some, None, Option, sym, refl, ap, ◌∙◌, subst, inl, inr, ⊎_elim, arith}
+use Rattle.std.proofs.Common.{◌≡◌, ℕ, ◌+◌, ◌<◌, ◌≤◌, Bool, true, false, ◌⊎◌, List, [], ◌∷◌, ◌++◌, Some, sym, refl, ap, ◌∙◌, subst, inl, inr, ⊎_elim, arith}
 use mathlib.Core.List.Memᴰ
 use mathlib.Core.List.{Memᴰ}
-use Rattle.std.proofs.lemmas.Bool.{ltb-true, leb-true}
+use Rattle.std.proofs.lemmas.Bool.{ltb-true}
 use Rattle.meaning.specs.Model.{Zone}
 use Rattle.meaning.specs.Says.{same}
 use Rattle.meaning.proofs.Rules.{same_so, so_same}
 use Rattle.protocol.specs.Words.{Name}
-use Rattle.protocol.specs.World.{Rules, Version, World, Event, start, current, rises, step, world}
+use Rattle.protocol.specs.World.{Rules, Version, World, Event, current, rises, step, world}
 use Rattle.protocol.specs.History.{in_force, OwnedSince}
 use Rattle.protocol.specs.Promise.{HistoryTrue, OneVersion}
-use Rattle.protocol.proofs.Lists.{some_is, some_none}
 use Rattle.protocol.proofs.Force.{Forced, newest, earlier, of_others, forced, unforced, force_later, force_more, force_now, current_here, current_other}
 use Rattle.protocol.proofs.Steps.{Moved, stays, ticks, adds, moved}
 

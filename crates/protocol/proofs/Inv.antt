@@ -1,18 +1,15 @@
 -- The invariant of every state of a run: what is copied, offered, said and remembered is true since its moment.
-use Rattle.std.proofs.Common.{◌≡◌, ℕ, ◌+◌, ◌<◌, ◌≤◌, Bool, true, false, cond, not, ◌&&◌, eqb, ltb, leb, ◌⊎◌, List, [], ◌∷◌, Some, None, Option, sym, refl, ap, ◌∙◌, subst, inl, inr, ⊎_elim, arith}
+use Rattle.std.proofs.Common.{◌≡◌, ℕ, ◌+◌, ◌≤◌, false, not, eqb, leb, List, ◌∷◌, Some, sym, refl, ap, ◌∙◌, subst, ⊎_elim, arith}
 use mathlib.Core.List.Memᴰ
 use mathlib.Core.List.{Memᴰ}
-use Rattle.std.proofs.lemmas.Bool.{cond-true, cond-false, cond_both, and_parts, not-true, leb-true, ltb-true, ltb-false, eqb-true, eqb-false, eq-eqb}
-use Rattle.names.specs.Order.{within}
+use Rattle.std.proofs.lemmas.Bool.{not-true, leb-true, eqb-false, eq-eqb}
 use Rattle.meaning.specs.Model.{Zone}
-use Rattle.meaning.specs.Says.{same}
-use Rattle.meaning.proofs.Rules.{same_so}
-use Rattle.protocol.specs.Words.{Name, Server, Word, tells}
-use Rattle.protocol.specs.World.{Rules, Version, Offer, Copy, Query, Response, Entry, World, Event, Tick, Publishes, OffersOwn, OffersCopy, Takes, Asks, Responds, Hears, Forgets, start, with_time, with_published, with_offered, with_copies, with_query, with_responses, with_cache, current, rises, lower, is_copy_at, copy_at, with_copy, unexpired, offer_own, offer_copy, copy_says, respond, drawn, may_ask, may_draw, ask, still_pending, matches, matching, closed, is_key, forgotten, entry_for, remember, hear, query_for, step, world, May, Brought}
+use Rattle.protocol.specs.Words.{Name, Word, tells}
+use Rattle.protocol.specs.World.{Rules, Offer, Copy, Query, Response, Entry, World, with_time, with_published, with_offered, with_copies, with_query, with_responses, with_cache, is_copy_at, with_copy, drawn, still_pending, closed, is_key, forgotten, entry_for, remember}
 use Rattle.protocol.specs.History.{in_force}
 use Rattle.protocol.specs.Promise.{TrueSince, FromQuery}
-use Rattle.protocol.proofs.Lists.{first_some, kept_in, any_none}
-use Rattle.protocol.proofs.Force.{force_later, force_more, force_now, current_apex}
+use Rattle.protocol.proofs.Lists.{kept_in, any_none}
+use Rattle.protocol.proofs.Force.{force_later, force_more}
 
 -- ---- what a later state keeps
 

@@ -1,22 +1,20 @@
 -- No state is a dead end: word by word along the way, each that the cache lacks is fetched.
-use Rattle.std.proofs.Common.{◌≡◌, ℕ, zero, suc, ◌+◌, ◌*◌, ◌<◌, ◌≤◌, Bool, true, false, cond, not, ◌&&◌, eqb, leb, ◌⊎◌, List, [], ◌∷◌, ◌++◌, length, Some, None, Option, sym, refl, ap, ◌∙◌, subst, inl, inr, ⊎_elim, true≢false, append_assoc, mul-one, mul-add, arith}
+use Rattle.std.proofs.Common.{◌≡◌, ℕ, zero, suc, ◌+◌, ◌*◌, ◌<◌, ◌≤◌, Bool, true, false, not, ◌&&◌, eqb, ◌⊎◌, List, [], ◌∷◌, ◌++◌, length, Some, None, Option, sym, refl, ap, ◌∙◌, subst, inl, inr, append_assoc, mul-one, mul-add, arith}
 use mathlib.Core.List.{Memᴰ}
-use Rattle.std.proofs.lemmas.Bool.{cond-true, cond-false, and_parts, and_from, not_from_true, not_from_false, leb-true, le-leb, eqb-true, eq-eqb, ne_eqb}
+use Rattle.std.proofs.lemmas.Bool.{cond-false, and_parts, and_from, not_from_false, leb-true, le-leb, eq-eqb, ne_eqb}
 use Rattle.names.specs.Order.{same_label}
 use Rattle.names.proofs.Within.{label_same}
 use Rattle.meaning.specs.Model.{Delegation, Zone}
 use Rattle.meaning.specs.Says.{same}
 use Rattle.meaning.specs.Speech.{Said, Referred}
 use Rattle.meaning.proofs.Rules.{same_so, so_same}
-use Rattle.protocol.specs.Lists.{first, kept}
-use Rattle.protocol.specs.Words.{Name, Server, Word, tells, Outcome, Next, Ends, Goes, next}
-use Rattle.protocol.specs.World.{Rules, Version, Copy, Entry, World, Event, current, lower, is_copy_at, copy_at, unexpired, is_server, until, counts, names_server, knows, may_ask, is_key, forgotten, entry_for, world, Brought}
-use Rattle.protocol.specs.History.{in_force, rested, others_run_out, oldest}
-use Rattle.protocol.specs.Walks.{End, Shows, LacksAt, TooLong, Walk, behind, walk, by_zone, by_owners, word_said, meant, remembered, entry_said, shown}
-use Rattle.protocol.specs.Promise.{Lacks, Rested, all_moves, price, offers_in, Wanted, AllWanted, AnyServer, HasCopy, Served, Reaches, Live}
-use Rattle.protocol.proofs.Lists.{some_is, some_none, first_here, first_there, first_some, first_none, first_kept, some_any}
-use Rattle.protocol.proofs.Force.{current_apex, still_current}
-use Rattle.protocol.proofs.Inv.{Inv}
+use Rattle.protocol.specs.Words.{Name, Server, Word, tells, Next, Ends, Goes, next}
+use Rattle.protocol.specs.World.{Rules, Version, Copy, Entry, World, Event, current, is_copy_at, copy_at, unexpired, is_server, until, counts, names_server, knows, may_ask, is_key, forgotten, entry_for, world, Brought}
+use Rattle.protocol.specs.History.{in_force, rested, oldest}
+use Rattle.protocol.specs.Walks.{End, LacksAt, Walk, walk, by_zone, by_owners, word_said, remembered, entry_said, shown}
+use Rattle.protocol.specs.Promise.{Lacks, Rested, all_moves, price, offers_in, Wanted, AllWanted, AnyServer, HasCopy, Live}
+use Rattle.protocol.proofs.Lists.{some_is, first_here, first_there, first_some, first_none, first_kept, some_any}
+use Rattle.protocol.proofs.Force.{still_current}
 use Rattle.protocol.proofs.Steps.{inv}
 use Rattle.protocol.proofs.Walks.{walk_lacks, walk_ends, walk_goes, walk_none, by_owner}
 use Rattle.protocol.proofs.Settled.{Held, held, says_now, out_everywhere}

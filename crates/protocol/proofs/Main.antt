@@ -1,6 +1,5 @@
 -- The promise of the whole, from its parts.
 use Rattle.std.proofs.Common.{List}
-use Rattle.protocol.specs.Words.{Server}
 use Rattle.protocol.specs.World.{Rules, rules_of, Event, world, Brought}
 use Rattle.protocol.specs.Promise.{Promise, Main}
 use Rattle.protocol.proofs.Steps.{inv}

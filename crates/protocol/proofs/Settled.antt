@@ -1,21 +1,20 @@
 -- What counts is fresh; and where all that was superseded has run out, what is shown is what is meant.
-use Rattle.std.proofs.Common.{◌≡◌, ℕ, zero, suc, ◌+◌, ◌<◌, ◌≤◌, Bool, true, false, cond, ◌&&◌, eqb, leb, ◌⊎◌, List, [], ◌∷◌, Some, None, Option, sym, refl, ap, ◌∙◌, subst, inl, inr, ⊎_elim, arith}
+use Rattle.std.proofs.Common.{◌≡◌, ℕ, zero, suc, ◌+◌, true, ◌&&◌, eqb, List, [], Some, None, Option, sym, refl, ap, ◌∙◌, subst, inl, inr, ⊎_elim, arith}
 use mathlib.Core.List.Memᴰ
 use mathlib.Core.List.{Memᴰ}
 use Rattle.std.proofs.lemmas.Bool.{and_parts, leb-true, eqb-true}
-use Rattle.meaning.specs.Model.{Zone}
 use Rattle.meaning.specs.Says.{same}
 use Rattle.meaning.specs.Speech.{Said}
 use Rattle.meaning.proofs.Rules.{same_so}
-use Rattle.protocol.specs.Words.{Name, Word, tells, Next, Ends, Goes, next}
-use Rattle.protocol.specs.World.{Rules, Entry, World, current, lower, until, counts, is_key}
-use Rattle.protocol.specs.History.{in_force, longest, rested, others_run_out, oldest}
+use Rattle.protocol.specs.Words.{Name, tells, Next, Ends, Goes, next}
+use Rattle.protocol.specs.World.{Rules, Entry, World, current, until, counts, is_key}
+use Rattle.protocol.specs.History.{in_force, longest, others_run_out}
 use Rattle.protocol.specs.Walks.{Walk, walk, by_zone, by_owners, word_said, remembered, entry_said, shown}
-use Rattle.protocol.specs.Promise.{Fresh, Lacks, ShowsMeant, WayRested, Rested}
+use Rattle.protocol.specs.Promise.{Fresh, ShowsMeant, WayRested, Rested}
 use Rattle.protocol.proofs.Lists.{first_some}
 use Rattle.protocol.proofs.Force.{force_longest, still_current, others_run_out_lem}
-use Rattle.protocol.proofs.Inv.{TrueEntry, Inv}
-use Rattle.protocol.proofs.Steps.{lower_left, lower_right}
+use Rattle.protocol.proofs.Inv.{Inv}
+use Rattle.protocol.proofs.Steps.{lower_right}
 use Rattle.protocol.proofs.Walks.{walk_lacks, walk_ends, walk_goes, walk_none, walk_by}
 
 -- what is found in the cache is there, counts, and has its key

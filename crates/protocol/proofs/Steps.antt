@@ -1,5 +1,5 @@
 -- Every event keeps the invariant, and what was true stays true.
-use Rattle.std.proofs.Common.{◌≡◌, ℕ, ◌+◌, ◌<◌, ◌≤◌, Bool, true, false, cond, not, ◌&&◌, eqb, ltb, leb, ◌⊎◌, List, [], ◌∷◌, ◌++◌, Some, None, Option, sym, refl, ap, ◌∙◌, subst, inl, inr, ⊎_elim, arith}
+use Rattle.std.proofs.Common.{◌≡◌, ℕ, ◌+◌, ◌≤◌, Bool, true, false, ◌&&◌, eqb, ltb, ◌⊎◌, List, [], ◌∷◌, Some, None, Option, sym, refl, ap, ◌∙◌, subst, inl, inr, ⊎_elim, arith}
 use mathlib.Core.List.Memᴰ
 use mathlib.Core.List.{Memᴰ}
 use Rattle.std.proofs.lemmas.Bool.{cond-true, cond-false, cond_both, and_parts, not-true, leb-true, ltb-true, ltb-false, eqb-true}
@@ -8,12 +8,12 @@ use Rattle.meaning.specs.Model.{Zone}
 use Rattle.meaning.specs.Says.{same}
 use Rattle.meaning.proofs.Rules.{same_so}
 use Rattle.protocol.specs.Words.{Name, Server, Word, tells}
-use Rattle.protocol.specs.World.{Rules, Version, Offer, Copy, Query, Response, Entry, World, Event, Tick, Publishes, OffersOwn, OffersCopy, Takes, Asks, Responds, Hears, Forgets, start, with_time, with_published, with_offered, with_copies, with_query, with_responses, with_cache, current, rises, publish, lower, is_copy_at, copy_at, with_copy, unexpired, offer, offer_own, offer_copy, take, copy_says, respond, drawn, may_ask, may_draw, ask, still_pending, matches, matching, closed, forgotten, remember, hear, query_for, step, world, May, Brought}
+use Rattle.protocol.specs.World.{Rules, Offer, Copy, Query, Response, World, Event, Tick, Publishes, OffersOwn, OffersCopy, Takes, Asks, Responds, Hears, Forgets, start, with_published, with_query, current, rises, publish, lower, is_copy_at, copy_at, unexpired, offer, offer_own, offer_copy, take, copy_says, respond, drawn, may_ask, may_draw, ask, matches, matching, hear, query_for, step, world, May, Brought}
 use Rattle.protocol.specs.History.{in_force}
 use Rattle.protocol.specs.Promise.{TrueSince}
-use Rattle.protocol.proofs.Lists.{first_some, kept_in, some_is, some_none}
-use Rattle.protocol.proofs.Force.{force_later, force_more, force_now, current_apex}
-use Rattle.protocol.proofs.Inv.{Later, TrueResponse, TrueEntry, Inv, inv_time, inv_published, inv_offered, inv_copies, inv_query, inv_responses, inv_forgotten, inv_remember}
+use Rattle.protocol.proofs.Lists.{first_some, some_none}
+use Rattle.protocol.proofs.Force.{force_later, force_now, current_apex}
+use Rattle.protocol.proofs.Inv.{Inv, inv_time, inv_published, inv_offered, inv_copies, inv_query, inv_responses, inv_forgotten, inv_remember}
 
 pub lower_left : (m n : ℕ) → lower m n ≤ m
 lower_left m n = cond_both (ltb m n) m n (λ x. x ≤ m) (λ e. omega arith) (λ e. ltb-false m n e)

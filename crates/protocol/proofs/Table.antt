@@ -9,7 +9,7 @@ use Rattle.protocol.specs.Lists.{first}
 use Rattle.protocol.specs.Words.{tells, next}
 use Rattle.protocol.specs.World.{current}
 use Rattle.protocol.specs.Walks.{walk}
-use Rattle.protocol.specs.Cases.{Case, OfZone, Holds, CasesHold}
+use Rattle.protocol.specs.Cases.{OfZone, Holds, CasesHold}
 
 of_zones : (cs : List one-zone.Case) → All one-zone.Holds cs → All Holds (map OfZone cs)
 of_zones [] h = tt

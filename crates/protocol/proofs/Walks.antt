@@ -1,15 +1,15 @@
 -- Walks go by words alone, and where referrals lead down and nothing is an alias they end.
-use Rattle.std.proofs.Common.{◌≡◌, ℕ, zero, suc, ◌+◌, ◌<◌, ◌≤◌, Bool, true, false, cond, ◌⊎◌, List, [], ◌∷◌, ◌++◌, length, Some, None, Option, sym, refl, ap, ◌∙◌, subst, inl, inr, ⊎_elim, arith, length-append}
+use Rattle.std.proofs.Common.{◌≡◌, ℕ, zero, suc, ◌+◌, ◌<◌, ◌≤◌, true, ◌⊎◌, [], ◌∷◌, length, Some, None, Option, sym, refl, ap, ◌∙◌, subst, inl, inr, ⊎_elim, arith, length-append}
 use mathlib.Core.List.{Memᴰ}
 use Rattle.names.specs.Order.{within}
 use Rattle.names.proofs.Within.{within_laws}
-use Rattle.meaning.specs.Model.{Delegation, Zone}
+use Rattle.meaning.specs.Model.{Zone}
 use Rattle.meaning.specs.Speech.{Said, Found, AliasTo, Referred, Empty, Absent}
 use Rattle.protocol.specs.Words.{Name, Word, tells, Outcome, Next, Ends, Goes, next}
 use Rattle.protocol.specs.World.{World, current}
-use Rattle.protocol.specs.Walks.{End, Shows, LacksAt, TooLong, Walk, behind, on_next, on_word, walk, by_zone, by_owners, word_said, meant}
+use Rattle.protocol.specs.Walks.{Shows, LacksAt, TooLong, Walk, behind, on_next, on_word, walk, by_zone, by_owners, word_said, meant}
 use Rattle.protocol.specs.Promise.{Lacks, NoAliases, LeadsDown, WalkLaws}
-use Rattle.protocol.proofs.Lists.{some_is, some_none}
+use Rattle.protocol.proofs.Lists.{some_none}
 use Rattle.protocol.proofs.Force.{current_apex}
 use Rattle.protocol.proofs.Words.{word_laws}
 

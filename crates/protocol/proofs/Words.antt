@@ -1,11 +1,11 @@
 -- The laws of words, from those of what a zone says.
-use Rattle.std.proofs.Common.{◌≡◌, ℕ, ◌<◌, true, ◌⊎◌, List, [], length, Some, None, Option, sym, refl, ap, ◌∙◌, subst, inl, inr, arith}
+use Rattle.std.proofs.Common.{◌≡◌, ℕ, ◌<◌, true, ◌⊎◌, [], length, Some, None, Option, refl, ap, ◌∙◌, subst, inl, inr, arith}
 use Rattle.names.specs.Order.{within}
 use Rattle.meaning.specs.Model.{Delegation, Set, Zone}
 use Rattle.meaning.specs.Says.{Speaker, ByDelegation, BySet, ByAlias, NoData, NoName, time_of, says}
 use Rattle.meaning.specs.Speech.{Said, Found, AliasTo, Referred, Empty, Absent, said_by}
 use Rattle.meaning.proofs.Saying.{says_laws}
-use Rattle.protocol.specs.Words.{Name, Word, word_by, tells, Next, Ends, Goes, next, WordLaws}
+use Rattle.protocol.specs.Words.{Name, Word, word_by, tells, Goes, next, WordLaws}
 
 -- a word is somebody's
 spoken : (z : Zone) (o : Option Speaker) (t : Word) → word_by z o ≡ Some t → (a : Speaker) × (o ≡ Some a) × (said_by a ≡ t.said)

@@ -1,7 +1,7 @@
 -- The worked cases about walks, times and copies, in one table with those about one zone.
-use Rattle.std.specs.Prelude.{◌≡◌, ℕ, Bool, true, false, List, [], ◌∷◌, ◌++◌, map, length, Some, None, codes, Option}
+use Rattle.std.specs.Prelude.{◌≡◌, ℕ, Bool, true, false, List, [], ◌∷◌, map, length, Some, None, Option}
 use Rattle.std.specs.List.{AllByRecursion as All}
-use Rattle.meaning.specs.Model.{Content, Addresses, Zone}
+use Rattle.meaning.specs.Model.{Addresses, Zone}
 use Rattle.meaning.specs.Speech.{Found}
 use Rattle.meaning.specs.Cases as one-zone
 use Rattle.meaning.specs.Cases.{upperton, server, address, alias, zone, rescue, root, a_name, ring}

@@ -1,5 +1,5 @@
 -- What owners said, and when: tests over the history of versions. Assumes nothing.
-use Rattle.std.specs.Prelude.{◌≡◌, ℕ, ◌+◌, ◌≤◌, Bool, true, cond, ◌&&◌, List, [], ◌∷◌, ◌++◌, Some, None, Option, nat_le, nat_lt}
+use Rattle.std.specs.Prelude.{◌≡◌, ℕ, ◌+◌, ◌≤◌, Bool, true, cond, ◌&&◌, List, [], ◌∷◌, ◌++◌, Some, nat_le, nat_lt}
 use mathlib.Core.List.{Memᴰ}
 use Rattle.meaning.specs.Model.{Zone}
 use Rattle.meaning.specs.Says.{same}

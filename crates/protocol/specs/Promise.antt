@@ -1,5 +1,5 @@
 -- What is promised of the whole, and of its parts. Each is a type; a term of that type is its proof. Assumes nothing.
-use Rattle.std.specs.Prelude.{◌≡◌, ℕ, ◌+◌, ◌*◌, ◌<◌, ◌≤◌, Bool, true, false, ◌&&◌, ◌⊎◌, List, [], ◌∷◌, ◌++◌, length, Some, None, Option, ◌≢◌}
+use Rattle.std.specs.Prelude.{◌≡◌, ℕ, ◌+◌, ◌*◌, ◌<◌, ◌≤◌, Bool, true, false, ◌&&◌, ◌⊎◌, List, [], ◌∷◌, ◌++◌, length, Some, Option, ◌≢◌}
 use mathlib.Core.List.{Memᴰ}
 use Rattle.names.specs.Order.{within}
 use Rattle.meaning.specs.Model.{Delegation, Content, Zone}

@@ -1,5 +1,5 @@
 -- Walks from the root, by any source of words: what a question means, and what is shown. Assumes nothing.
-use Rattle.std.specs.Prelude.{◌≡◌, ℕ, zero, suc, ◌-◌, Bool, cond, ◌&&◌, List, [], ◌∷◌, Some, None, Option}
+use Rattle.std.specs.Prelude.{ℕ, zero, suc, ◌-◌, ◌&&◌, List, [], ◌∷◌, Some, None, Option}
 use Rattle.meaning.specs.Model.{Zone}
 use Rattle.meaning.specs.Speech.{Said}
 use Rattle.protocol.specs.Lists.{first}

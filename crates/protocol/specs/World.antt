@@ -1,8 +1,8 @@
 -- Owners with their histories, servers with copies, one resolver and a net; and whatever may happen. Assumes nothing.
-use Rattle.std.specs.Prelude.{◌≡◌, ℕ, ◌+◌, Bool, true, false, cond, not, ◌&&◌, ◌||◌, leb, List, [], ◌∷◌, length, Some, None, Option, ◌==◌, nat_eq, nat_le, nat_lt}
+use Rattle.std.specs.Prelude.{ℕ, ◌+◌, Bool, true, false, cond, not, ◌&&◌, leb, List, [], ◌∷◌, length, Some, None, Option, ◌==◌, nat_eq, nat_le, nat_lt}
 use mathlib.Core.List.{Memᴰ}
 use Rattle.names.specs.Order.{same_label, within}
-use Rattle.meaning.specs.Model.{Delegation, Zone, newer}
+use Rattle.meaning.specs.Model.{Zone, newer}
 use Rattle.meaning.specs.Says.{same}
 use Rattle.meaning.specs.Speech.{Said, Found, AliasTo, Referred, Empty, Absent}
 use Rattle.protocol.specs.Lists.{first, kept, any}

@@ -1,5 +1,5 @@
 -- What passes a test is kept in its order: what stands before a place was kept, and what is due of the rest follows.
-use Rattle.std.proofs.Common.{◌≡◌, ℕ, ◌+◌, ◌<◌, ◌≤◌, Bool, true, false, List, [], ◌∷◌, ◌++◌, map, length, get_or, take, drop, sym, refl, ap, ◌∙◌, arith}
+use Rattle.std.proofs.Common.{◌≡◌, ℕ, ◌+◌, ◌<◌, ◌≤◌, Bool, true, false, List, [], ◌∷◌, ◌++◌, map, length, get_or, take, drop, sym, ap, ◌∙◌, arith}
 use Rattle.std.proofs.lemmas.List.{length-take-le, append_assoc, append-nil, drop_more, drop_all, take_all, take_at, drop_at, map_more}
 use Rattle.protocol.specs.Lists.{kept}
 use Rattle.protocol.proofs.Lists.{kept_here, kept_not}

@@ -3,7 +3,6 @@ use Rattle.std.specs.Prelude.{ℕ, List, map, vec_items}
 use Rattle.names.specs.Names.{labels}
 use Rattle.records.specs.declared.data.Data.{Data}
 use Rattle.records.specs.declared.data.Data.TheVariants as rust
-use Rattle.records.specs.declared.data.Delegation as declared
 use Rattle.records.specs.declared.types.Address.{Address}
 use Rattle.meaning.specs.Model as model
 use Rattle.meaning.specs.Model.{Content}

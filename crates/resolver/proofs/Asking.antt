@@ -1,5 +1,5 @@
 -- Questions that begin, and those that are done.
-use Rattle.std.proofs.Common.{◌≡◌, ℕ, zero, suc, ◌+◌, ◌<◌, ◌≤◌, Bool, true, false, cond, leb, List, [], ◌∷◌, ◌++◌, map, length, get_or, take, drop, Some, None, Option, sym, refl, ap, ◌∙◌, subst, append_assoc, append-nil, arith}
+use Rattle.std.proofs.Common.{◌≡◌, ℕ, ◌+◌, ◌<◌, ◌≤◌, leb, List, [], ◌∷◌, ◌++◌, map, length, get_or, take, drop, Some, None, sym, refl, ap, ◌∙◌, append_assoc, append-nil}
 use mathlib.Core.List.{map-append}
 use Rattle.std.proofs.lemmas.List.{get_or-map, take-map, drop-map, drop_more, drop_all, take_more, take_all}
 use Rattle.std.proofs.lemmas.Bool.{cond-true, cond-false, le-leb, lt-leb}
@@ -10,7 +10,7 @@ use Rattle.machine.specs.Machine.{Question, State, Nowhere, Shown, shown_as, Don
 use Rattle.resolver.specs.declared.answer.Answer.{Answer}
 use Rattle.resolver.specs.declared.answer.Standing.{Standing}
 use Rattle.resolver.specs.declared.answer.Standing.TheVariants as stands
-use Rattle.resolver.specs.Resolvers.{answer_for, standing_for}
+use Rattle.resolver.specs.Resolvers.{standing_for}
 
 module _ (r : Rules) (st : State) (u : Question) where
   pub no_place : 16 ≤ length st.walks → begin r u st ≡ record { state = st; shown = Some (shown_as u Nowhere 0) }

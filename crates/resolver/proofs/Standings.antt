@@ -1,9 +1,9 @@
 -- Where a question stands, by what its walk came to.
-use Rattle.std.proofs.Common.{◌≡◌, ℕ, ◌*◌, ◌/◌, ◌<◌, ◌≤◌, Bool, true, false, cond, leb, List, Option, sym, refl, ap, ◌∙◌, arith}
+use Rattle.std.proofs.Common.{◌≡◌, ℕ, ◌*◌, ◌/◌, Bool, true, false, leb, sym, refl, ap, ◌∙◌, arith}
 use Rattle.std.proofs.lemmas.Bool.{cond-true, cond-false, leb-true, leb-false, le-leb, lt-leb}
-use Rattle.protocol.specs.Words.{Name, Server, Outcome}
+use Rattle.protocol.specs.Words.{Name, Outcome}
 use Rattle.protocol.specs.World.{Rules}
-use Rattle.protocol.specs.Walks.{Shows, LacksAt, TooLong, least_left}
+use Rattle.protocol.specs.Walks.{Shows, LacksAt, TooLong}
 use Rattle.machine.specs.Machine.{Question, State, Answered, Endless, Nowhere, walk_of, servers_on, tried_of, too_many, pending_for, Done, lacking, standing_by, standing}
 use Rattle.walks.specs.Courses.{Course, course_by}
 

@@ -1,12 +1,12 @@
 -- A walk gone word by word gathers what its words come to.
-use Rattle.std.proofs.Common.{◌≡◌, ℕ, zero, suc, ◌<◌, ◌≤◌, Bool, true, false, cond, ltb, ◌⊎◌, List, [], ◌∷◌, Some, None, Option, sym, refl, ap, ◌∙◌, subst, inl, inr, ⊎_elim, arith}
-use Rattle.std.proofs.lemmas.Bool.{cond-true, cond-false, ltb-true, ltb-false, lt-ltb, le-ltb}
+use Rattle.std.proofs.Common.{◌≡◌, ℕ, zero, suc, ◌≤◌, Bool, true, false, ltb, ◌⊎◌, List, [], ◌∷◌, Some, None, Option, sym, refl, ap, ◌∙◌, inl, inr, arith}
+use Rattle.std.proofs.lemmas.Bool.{cond-true, cond-false, ltb-true, ltb-false}
 use Rattle.protocol.specs.Words.{Name, Server, Next, Ends, Goes, next}
 use Rattle.protocol.specs.World.{Rules, Entry, lower}
-use Rattle.protocol.specs.Walks.{End, Shows, LacksAt, TooLong, Walk, walk, remembered, entry_said, shown_by, left, least_left}
+use Rattle.protocol.specs.Walks.{LacksAt, TooLong, Walk, walk, entry_said, left, least_left}
 use Rattle.protocol.proofs.Walks.{walk_none, walk_lacks, walk_ends, walk_goes}
-use Rattle.machine.specs.Machine.{servers_by, servers_after, servers_on}
-use Rattle.walks.specs.Courses.{Course, course_by, course_of, lesser, least_of, Gathered, nothing, gather, course_at, step_next, step_word, course}
+use Rattle.machine.specs.Machine.{servers_by, servers_after}
+use Rattle.walks.specs.Courses.{course_by, lesser, least_of, Gathered, nothing, gather, course_at, step_next, step_word, course}
 
 -- ---- the lower of three
 

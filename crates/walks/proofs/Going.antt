@@ -1,16 +1,16 @@
 -- The turns of the loop that walks.
-use Rattle.std.proofs.Common.{◌≡◌, ℕ, zero, suc, ◌+◌, ◌-◌, ◌<◌, cond, ltb, List, [], ◌∷◌, ◌++◌, map, length, Some, None, Option, sym, refl, ap, ◌∙◌, subst, append_assoc, append-nil, arith, length-append}
+use Rattle.std.proofs.Common.{◌≡◌, ℕ, suc, ◌+◌, ◌-◌, ◌<◌, ltb, List, [], ◌∷◌, ◌++◌, map, length, Some, None, Option, sym, refl, ap, ◌∙◌, append_assoc, append-nil, arith, length-append}
 use mathlib.Core.List.{map-append}
 use Rattle.std.specs.List.{slice_get}
 use Rattle.meaning.specs.Speech.{Said, Found, AliasTo, Referred, Empty, Absent}
-use Rattle.protocol.specs.Words.{Name, Server, Next, Ends, Goes, next}
-use Rattle.protocol.specs.World.{Rules, rules_of, Entry}
-use Rattle.protocol.specs.Walks.{End, Shows, LacksAt, TooLong, remembered, left, Walk, walk, entry_said}
+use Rattle.protocol.specs.Words.{Name, Server, Ends, Goes, next}
+use Rattle.protocol.specs.World.{rules_of, Entry}
+use Rattle.protocol.specs.Walks.{Shows, LacksAt, TooLong, remembered, left, Walk, walk, entry_said}
 use Rattle.std.proofs.lemmas.Bool.{cond-true, lt-ltb}
 use Rattle.protocol.proofs.Walks.{walk_none, walk_lacks, walk_ends, walk_goes}
 use Rattle.cache.specs.Entries.{rules}
 use Rattle.machine.specs.Machine.{servers_by}
-use Rattle.walks.specs.Courses.{Course, course_by, course_of, lesser, least_of, Gathered, nothing, gather, course_at, step_next, course}
+use Rattle.walks.specs.Courses.{course_of, lesser, Gathered, gather, course_at, step_next, course}
 use Rattle.walks.specs.Traces.{one_place}
 use Rattle.walks.specs.Ways.{outcome_of, Names, servers_from, servers_at, outcome_at}
 use Rattle.walks.proofs.Courses.{course_whole, course_none, course_some, course_end}

@@ -1,10 +1,9 @@
 -- A walk as the code goes it: word by word, with what it has gathered on the way. Assumes nothing.
-use Rattle.std.specs.Prelude.{ℕ, zero, suc, Bool, cond, List, [], ◌∷◌, Some, None, Option}
-use Rattle.meaning.specs.Speech.{Said}
+use Rattle.std.specs.Prelude.{ℕ, zero, suc, List, Some, None, Option}
 use Rattle.protocol.specs.Words.{Name, Server, Next, Ends, Goes, next}
 use Rattle.protocol.specs.World.{Rules, Entry, lower}
-use Rattle.protocol.specs.Walks.{End, Shows, LacksAt, TooLong, Walk, walk, remembered, entry_said, shown_by, left, least_left}
-use Rattle.machine.specs.Machine.{servers_by, servers_after, servers_on}
+use Rattle.protocol.specs.Walks.{End, Shows, LacksAt, TooLong, Walk, entry_said, shown_by, left, least_left}
+use Rattle.machine.specs.Machine.{servers_by, servers_on}
 
 -- what a walk came to: its end, the least that is left of its words' times, and the servers named for where it is
 pub record Course : Type 0 where

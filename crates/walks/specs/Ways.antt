@@ -1,9 +1,9 @@
 -- What the code's walks stand for.
-use Rattle.std.specs.Prelude.{◌≡◌, ℕ, List, [], ◌∷◌, Some, None, Option}
+use Rattle.std.specs.Prelude.{◌≡◌, ℕ, List, Some, None, Option}
 use Rattle.std.specs.List.{slice_get}
 use Rattle.names.specs.Names.{labels}
 use Rattle.meaning.specs.Speech.{Said, Found, AliasTo, Referred, Empty, Absent}
-use Rattle.protocol.specs.Words.{Name, Server, Outcome, Told, NoData, NoName}
+use Rattle.protocol.specs.Words.{Server, Outcome, Told, NoData, NoName}
 use Rattle.protocol.specs.World.{Entry}
 use Rattle.protocol.specs.Walks as walks
 use Rattle.protocol.specs.Walks.{End}

@@ -1,4 +1,4 @@
-use Rattle.std.proofs.Common.{sym, ap, ◌∙◌, subst, arith}
+use Rattle.std.proofs.Common.{sym, subst, arith}
 use Rattle.cache.specs.Hints.{Rising}
 use Rattle.cache.proofs.Hinting.{lower_half, upper_half}
 use Rattle.cache.proofs.index.Index.first.Goals as goal

@@ -1,4 +1,4 @@
-use Rattle.std.proofs.Common.{eqb, Some, None, sym, refl, ap, ◌∙◌, arith}
+use Rattle.std.proofs.Common.{eqb, Some, None, sym, ap, ◌∙◌, arith}
 use Rattle.cache.specs.Hints.{place_in}
 use Rattle.cache.specs.Indexes.{hints_of}
 use Rattle.std.proofs.lemmas.Option.{slice_get_read, slice_get_past}

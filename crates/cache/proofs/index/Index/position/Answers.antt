@@ -1,4 +1,4 @@
-use Rattle.std.proofs.Common.{◌≡◌, false, sym, ap, ◌∙◌, subst, arith}
+use Rattle.std.proofs.Common.{sym, ap, ◌∙◌, arith}
 use Rattle.cache.specs.Hints.{hinted}
 use Rattle.cache.proofs.Hinting.{unhinted}
 use Rattle.cache.proofs.index.Index.position.Goals as goal

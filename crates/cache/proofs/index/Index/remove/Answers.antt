@@ -1,4 +1,4 @@
-use Rattle.std.proofs.Common.{◌+◌, length, sym, ap, ◌∙◌, subst, arith}
+use Rattle.std.proofs.Common.{◌+◌, length, sym, ap, ◌∙◌, subst}
 use Rattle.std.proofs.lemmas.List.Edits.{length-remove}
 use Rattle.cache.specs.Hints.{hinted, Rising}
 use Rattle.cache.specs.Indexes.{hints_of}

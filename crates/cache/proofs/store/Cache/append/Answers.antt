@@ -1,13 +1,13 @@
 use Rattle.std.proofs.Common.{◌≡◌, true, map, length, vec_items, sym, ap, ◌∙◌, subst, arith}
 use lib.ListN.{length-map}
-use Rattle.std.proofs.lemmas.List.{map-set, map_push}
+use Rattle.std.proofs.lemmas.List.{map_push}
 use Rattle.machine.specs.Store.{one_a_key}
 use Rattle.cache.specs.Entries.{entry_of, rules}
 use Rattle.cache.specs.Caches.{entries_of}
 use Rattle.cache.specs.Hints.{hinted, Covers}
 use Rattle.cache.specs.Indexes.{hints_of}
-use Rattle.cache.proofs.Covering.{covers_set, covers_push, covers_replaced}
-use Rattle.cache.proofs.Storing.{place_within, one_replaced, one_appended, one_ousted}
+use Rattle.cache.proofs.Covering.{covers_push}
+use Rattle.cache.proofs.Storing.{one_appended}
 use Rattle.cache.proofs.store.Cache.append.Goals as goal
 
 pub push_reserved-requires : goal.push_reserved-requires

@@ -1,4 +1,4 @@
-use Rattle.std.proofs.Common.{◌<◌, true, false, length, IfSome, Some, vec_items, vec_len, sym, ap, ◌∙◌, subst, arith}
+use Rattle.std.proofs.Common.{◌<◌, true, false, length, IfSome, vec_items, vec_len, sym, ap, ◌∙◌, subst, arith}
 use Rattle.cache.specs.Entries.{entry_of, rules}
 use Rattle.cache.specs.Flags.{first_of_two}
 use Rattle.cache.specs.Caches.{entries_of}

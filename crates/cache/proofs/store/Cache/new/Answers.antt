@@ -1,4 +1,4 @@
-use Rattle.std.proofs.Common.{map, length, sym, ap, ◌∙◌, arith}
+use Rattle.std.proofs.Common.{map, length, ap, arith}
 use Rattle.machine.specs.Store.{one_a_key}
 use Rattle.cache.specs.Entries.{entry_of}
 use Rattle.cache.proofs.store.Cache.new.Goals as goal

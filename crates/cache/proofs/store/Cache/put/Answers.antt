@@ -1,4 +1,4 @@
-use Rattle.std.proofs.Common.{◌≡◌, sym, refl, ap, ◌∙◌, arith}
+use Rattle.std.proofs.Common.{sym, refl, ap, ◌∙◌, arith}
 use Rattle.cache.specs.Entries.{entry_of, rules}
 use Rattle.cache.specs.Caches.{entries_of}
 use Rattle.machine.specs.Store as store

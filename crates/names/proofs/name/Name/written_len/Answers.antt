@@ -1,4 +1,4 @@
-use Rattle.std.proofs.Common.{◌≡◌, length, ap, arith}
+use Rattle.std.proofs.Common.{arith}
 use Rattle.names.specs.Names.{labels}
 use Rattle.names.proofs.Laws.{count_is, labels_proper, weight_is}
 use Rattle.names.proofs.Proper.{limits, length_written_root, length_written_all}

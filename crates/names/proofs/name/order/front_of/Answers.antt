@@ -1,4 +1,4 @@
-use Rattle.std.proofs.Common.{◌≡◌, ◌+◌, ◌-◌, ◌*◌, ◌<◌, drop, sym, ap, ◌∙◌, arith, rules}
+use Rattle.std.proofs.Common.{◌+◌, ◌-◌, ◌*◌, drop, sym, ap, ◌∙◌, arith, rules}
 use Rattle.names.specs.Fronts.{packed}
 use Rattle.names.proofs.Fronts.{front_step, front_done, room_step, room_left}
 use Rattle.names.proofs.name.order.front_of.Goals as goal

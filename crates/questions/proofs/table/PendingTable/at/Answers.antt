@@ -1,4 +1,4 @@
-use Rattle.std.proofs.Common.{vec_items, ◌∙◌, arith}
+use Rattle.std.proofs.Common.{vec_items, arith}
 use Rattle.questions.specs.Queries.{pending_of}
 use Rattle.questions.proofs.Finding.{got, got_none}
 use Rattle.questions.proofs.table.PendingTable.at.Goals as goal

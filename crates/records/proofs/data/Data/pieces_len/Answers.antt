@@ -1,4 +1,4 @@
-use Rattle.std.proofs.Common.{◌≡◌, true, length, vec_items, sym, ap, ◌∙◌, subst, arith}
+use Rattle.std.proofs.Common.{◌≡◌, true, length, vec_items, ap, subst, arith}
 use Rattle.names.specs.Labels.{written}
 use Rattle.names.specs.Names.{labels}
 use Rattle.names.specs.Wire.{wire_labels}

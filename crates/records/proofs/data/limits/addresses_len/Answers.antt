@@ -1,4 +1,4 @@
-use Rattle.std.proofs.Common.{get_or, refl, arith}
+use Rattle.std.proofs.Common.{get_or, arith}
 use Rattle.std.proofs.lemmas.List.{get_or_default}
 use Rattle.records.specs.Contents.{bytes_of}
 use Rattle.records.proofs.Weighed.{one_weighed, all_weighed}

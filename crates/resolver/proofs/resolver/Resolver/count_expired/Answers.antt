@@ -1,4 +1,4 @@
-use Rattle.std.proofs.Common.{◌≡◌, not, sym, refl, ap, ◌∙◌, arith}
+use Rattle.std.proofs.Common.{not, refl, ◌∙◌, arith}
 use Rattle.cache.specs.Entries.{rules}
 use Rattle.machine.specs.Machine.{is_open}
 use Rattle.resolver.specs.Resolvers.{roots_of, rules_for, state_of}

@@ -1,7 +1,7 @@
-use Rattle.std.proofs.Common.{◌≡◌, Some, None, sym, refl, ap, ◌∙◌}
+use Rattle.std.proofs.Common.{None, sym, refl, ◌∙◌}
 use Rattle.names.specs.Names.{labels}
 use Rattle.cache.specs.Caches.{entries_of}
-use Rattle.questions.specs.Queries.{pending_of, query_of}
+use Rattle.questions.specs.Queries.{pending_of}
 use Rattle.questions.specs.Tables.{table_of}
 use Rattle.machine.specs.Machine.{send}
 use Rattle.walks.specs.Ways.{servers_at}

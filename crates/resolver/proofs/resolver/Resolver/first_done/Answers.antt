@@ -1,8 +1,8 @@
-use Rattle.std.proofs.Common.{◌≡◌, ◌+◌, ◌<◌, ◌≤◌, ◌++◌, map, length, get_or, take, drop, Some, vec_items, sym, refl, ap, ◌∙◌, arith}
+use Rattle.std.proofs.Common.{◌+◌, ◌++◌, map, take, drop, Some, vec_items, sym, ap, ◌∙◌, arith}
 use lib.ListN.{length-map}
 use Rattle.cache.specs.Caches.{entries_of}
 use Rattle.questions.specs.Tries.{question_of}
-use Rattle.machine.specs.Machine.{is_done, standing, shown_as}
+use Rattle.machine.specs.Machine.{is_done, shown_as}
 use Rattle.resolver.specs.Resolvers.{roots_of, rules_for, state_of, answer_for}
 use Rattle.resolver.proofs.Asking.{none_yet, not_this, this_one, none_done, not_done, read_at}
 use Rattle.resolver.proofs.resolver.Resolver.first_done.Goals as goal

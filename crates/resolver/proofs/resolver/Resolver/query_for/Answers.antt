@@ -1,10 +1,7 @@
-use Rattle.std.proofs.Common.{◌≡◌, [], map, length, get_or, sym, refl, ap, ◌∙◌, arith}
+use Rattle.std.proofs.Common.{length, ap, arith}
 use lib.ListN.{length-map}
-use Rattle.std.proofs.lemmas.List.{get_or-map}
 use Rattle.names.specs.Names.{labels}
 use Rattle.records.specs.Contents.{bytes_of}
-use Rattle.protocol.specs.World.{query_for}
-use Rattle.machine.specs.Machine.{place_for}
 use Rattle.cache.specs.Caches.{entries_of}
 use Rattle.walks.specs.Ways.{servers_at}
 use Rattle.resolver.specs.Resolvers.{roots_of, one_tried}

@@ -1,10 +1,8 @@
-use Rattle.std.proofs.Common.{◌≡◌, ◌+◌, ◌<◌, ◌≤◌, ◌++◌, map, length, get_or, take, drop, Some, vec_items, sym, refl, ap, ◌∙◌, arith}
-use mathlib.Core.List.{map-append}
-use lib.ListN.{length-map}
+use Rattle.std.proofs.Common.{map, Some, vec_items, sym, refl, ap, ◌∙◌, arith}
 use Rattle.cache.specs.Caches.{entries_of}
 use Rattle.questions.specs.Tries.{question_of}
 use Rattle.machine.specs.Machine.{Settled, with_walks, shown_as}
-use Rattle.resolver.specs.Resolvers.{rules_for, state_of, answer_for}
+use Rattle.resolver.specs.Resolvers.{state_of, answer_for}
 use Rattle.resolver.proofs.Asking.{read_at, without}
 use Rattle.resolver.proofs.resolver.Resolver.settle.Goals as goal
 

@@ -1,11 +1,11 @@
-use Rattle.std.proofs.Common.{◌≡◌, ◌-◌, ◌<◌, ◌≤◌, map, length, get_or, Some, None, vec_items, sym, refl, ap, ◌∙◌, arith}
+use Rattle.std.proofs.Common.{◌-◌, map, vec_items, sym, ap, ◌∙◌, arith}
 use lib.ListN.{length-map}
 use Rattle.std.specs.Option.{option_map}
 use Rattle.cache.specs.Caches.{entries_of}
 use Rattle.questions.specs.Tries.{question_of}
 use Rattle.machine.specs.Machine as machine
 use Rattle.machine.specs.Machine.{is_waiting, standing}
-use Rattle.resolver.specs.Resolvers.{roots_of, rules_for, state_of, standing_for}
+use Rattle.resolver.specs.Resolvers.{roots_of, rules_for, state_of}
 use Rattle.resolver.proofs.Asking.{read_at}
 use Rattle.resolver.proofs.Drawing.{none_from_end, not_this, this_one, none_at_all, not_waiting, wish_is}
 use Rattle.resolver.proofs.resolver.Resolver.wanting.Goals as goal

@@ -1,8 +1,6 @@
-use Rattle.std.proofs.Common.{◌*◌, ◌/◌, leb, length, sym, ap, ◌∙◌}
+use Rattle.std.proofs.Common.{◌*◌, leb, length, sym, ◌∙◌}
 use lib.ListN.{length-map}
 use Rattle.records.specs.Contents.{bytes_of}
-use Rattle.machine.specs.Machine.{count_of}
-use Rattle.resolver.specs.Resolvers.{one_tried}
 use Rattle.resolver.proofs.Standings.{halved}
 use Rattle.resolver.proofs.resolver.standing.is_exhausted.Goals as goal
 

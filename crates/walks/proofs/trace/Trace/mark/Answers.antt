@@ -1,4 +1,4 @@
-use Rattle.std.proofs.Common.{◌≡◌, take, sym, refl, ap, ◌∙◌, arith}
+use Rattle.std.proofs.Common.{◌≡◌, take, ap, ◌∙◌, arith}
 use Rattle.walks.specs.Traces.{places_of, marked}
 use Rattle.walks.proofs.Traced.{none_marked, one_marked, past_marked}
 use Rattle.walks.proofs.trace.Trace.mark.Goals.{then-place-flags, else-place-flags}

@@ -1,4 +1,4 @@
-use Rattle.std.proofs.Common.{[], Some, None, sym, refl, ap, ◌∙◌, subst}
+use Rattle.std.proofs.Common.{Some, None, sym, refl, ap, ◌∙◌, subst}
 use Rattle.names.specs.Names.{labels}
 use Rattle.protocol.specs.Words.{Goes, Ends, next}
 use Rattle.cache.specs.Entries.{said_of}
