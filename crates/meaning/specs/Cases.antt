@@ -1,6 +1,6 @@
 -- The worked cases, as rows of one table.
 use Rattle.std.specs.Prelude.{◌≡◌, ℕ, List, [], ◌∷◌, Some, codes}
-use Rattle.std.specs.List.{AllByRecursion as All}
+use Rattle.std.specs.List.{AllByRecursion}
 use Rattle.meaning.specs.Model.{Addresses, AliasOf, Delegated, Set, Zone}
 use Rattle.meaning.specs.Says.{Speaker, ByDelegation, BySet, ByAlias, NoData, NoName, says}
 
@@ -82,4 +82,4 @@ cases =
     ∷ []
 
 abbrev pub CasesHold : Type 0
-CasesHold = All Holds cases
+CasesHold = AllByRecursion Holds cases

@@ -1,6 +1,6 @@
 -- The worked cases about walks, times and copies, in one table with those about one zone.
 use Rattle.std.specs.Prelude.{◌≡◌, ℕ, Bool, true, false, List, [], ◌∷◌, map, length, Some, None, Option}
-use Rattle.std.specs.List.{AllByRecursion as All}
+use Rattle.std.specs.List.{AllByRecursion}
 use Rattle.meaning.specs.Model.{Addresses, Zone}
 use Rattle.meaning.specs.Speech.{Found}
 use Rattle.meaning.specs.Cases as one-zone
@@ -71,4 +71,4 @@ cases =
     ∷ map OfZone one-zone.cases
 
 abbrev pub CasesHold : Type 0
-CasesHold = All Holds cases
+CasesHold = AllByRecursion Holds cases
