@@ -1,5 +1,5 @@
 -- What the two sets on both sides of a place say is what all sets say.
-use Rattle.std.proofs.Common.{◌≡◌, ℕ, zero, suc, ◌-◌, ◌<◌, ◌≤◌, Bool, true, false, cond, not, ◌&&◌, ◌||◌, eqb, ◌⊎◌, List, [], ◌∷◌, map, length, get_or, Some, None, Option, sym, refl, ap, ◌∙◌, subst, inl, inr, ⊎_elim, true≢false, arith}
+use Rattle.std.proofs.Common.{◌≡◌, ℕ, zero, suc, ◌-◌, ◌<◌, ◌≤◌, Bool, true, false, cond, not, ◌||◌, eqb, ◌⊎◌, List, [], ◌∷◌, map, length, get_or, Some, None, Option, sym, refl, ap, ◌∙◌, subst, inl, inr, ⊎_elim, true≢false, arith}
 use mathlib.Core.List.Memᴰ
 use mathlib.Core.List.{Memᴰ}
 use lib.ListN.{length-map}
@@ -12,7 +12,7 @@ use Rattle.meaning.specs.Says.{Speaker, BySet, ByAlias, NoData, NoName, same, is
 use Rattle.meaning.specs.Speech.{undelegated}
 use Rattle.meaning.proofs.Finding.{Nothing, Found, some, none, finds, Below, one, no_one, looks_below}
 use Rattle.meaning.proofs.Rules.{same_so, so_same}
-use Rattle.zones.specs.Sorted.{is_before, sorted, place, set_at}
+use Rattle.zones.specs.Sorted.{sorted, place, set_at}
 use Rattle.zones.specs.Valid.{clash, clashes, no_clash}
 use Rattle.zones.specs.Zones.{tells_data, tells_nothing}
 use Rattle.zones.proofs.Places.{mem_at, index_of, place_within, before_place, at_place, read_at}

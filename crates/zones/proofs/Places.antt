@@ -1,16 +1,15 @@
 -- How many of the first elements of a list pass a test, found by halving; and where a name and kind stand among sorted sets.
-use Rattle.std.proofs.Common.{◌≡◌, ℕ, zero, suc, ◌+◌, ◌<◌, ◌≤◌, Bool, true, false, cond, ◌&&◌, ◌⊎◌, List, [], ◌∷◌, map, length, get_or, Ordering, Less, Equal, Greater, sym, refl, ap, ◌∙◌, subst, inl, inr, ⊎_elim, true≢false, arith}
+use Rattle.std.proofs.Common.{◌≡◌, ℕ, zero, suc, ◌+◌, ◌<◌, ◌≤◌, Bool, true, false, cond, ◌⊎◌, List, [], ◌∷◌, map, length, get_or, Ordering, Less, Equal, Greater, sym, refl, ap, ◌∙◌, subst, inl, inr, ⊎_elim, true≢false, arith}
 use mathlib.Core.List.Memᴰ
 use mathlib.Core.List.{Memᴰ}
 use lib.ListN.{length-map}
 use Rattle.std.specs.Cmp.{IsTotalOrder, nat_cmp_total, on_total, then_total}
 use Rattle.std.specs.Ordering.{is_lt, ordering_then, nat_cmp, then_cmp, on}
 use Rattle.std.proofs.lemmas.List.{get_or-map}
-use Rattle.std.proofs.lemmas.Bool.{cond-true, cond-false, and_parts, cases_lt, cases_order}
+use Rattle.std.proofs.lemmas.Bool.{cond-true, cond-false, and_parts, cases_lt}
 use Rattle.names.specs.Fronts.{front_below}
-use Rattle.names.specs.Order.{order, within, NotAfter}
+use Rattle.names.specs.Order.{order}
 use Rattle.names.specs.Comparing.{names_total}
-use Rattle.names.proofs.Order.{order_laws}
 use Rattle.meaning.specs.Model.{AliasOf, Set}
 use Rattle.zones.specs.Sorted.{is_before, sorted, leading, place, fronts_of}
 

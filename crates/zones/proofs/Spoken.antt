@@ -1,5 +1,5 @@
 -- What a zone says, by what its searches found.
-use Rattle.std.proofs.Common.{◌≡◌, ℕ, Bool, true, false, cond, not, ◌&&◌, ◌==◌, List, Some, None, Option, sym, refl, ap, ◌∙◌, subst, true≢false}
+use Rattle.std.proofs.Common.{◌≡◌, ℕ, Bool, true, false, cond, not, ◌&&◌, ◌==◌, List, Some, None, Option, sym, refl, ap, ◌∙◌, true≢false}
 use Rattle.std.proofs.lemmas.Bool.{and_parts}
 use Rattle.names.specs.Order.{within}
 use Rattle.meaning.specs.Model.{delegates, aliases, Set, Zone}

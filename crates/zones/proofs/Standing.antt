@@ -1,19 +1,19 @@
 -- Whether a set stands at a name, and whether a new one clashes with what stands there.
-use Rattle.std.proofs.Common.{◌≡◌, ℕ, nat_eq, ◌+◌, ◌<◌, ◌≤◌, Bool, true, false, cond, ◌&&◌, ◌||◌, eqb, ◌⊎◌, List, [], ◌∷◌, map, length, get_or, is_some, Some, None, Decides, Option, Ordering, sym, refl, ap, ◌∙◌, subst, inl, inr, ⊎_elim, true≢false, arith}
+use Rattle.std.proofs.Common.{◌≡◌, ℕ, nat_eq, ◌<◌, ◌≤◌, Bool, true, false, cond, ◌&&◌, ◌||◌, List, [], ◌∷◌, map, length, get_or, is_some, Some, None, Option, sym, refl, ap, ◌∙◌, subst, ⊎_elim, true≢false, arith}
 use mathlib.Core.List.Memᴰ
 use mathlib.Core.List.{Memᴰ}
 use lib.ListN.{length-map}
 use Rattle.std.specs.Cmp.Lexicographic.{pointwise}
 use Rattle.std.specs.Option.{option_map}
 use Rattle.std.specs.Ordering.{is_le}
-use Rattle.std.proofs.lemmas.Bool.{cases_lt, or_left, or_parts}
+use Rattle.std.proofs.lemmas.Bool.{cases_lt}
 use Rattle.std.proofs.lemmas.Bool.Decides.{same_from_decides}
 use Rattle.names.specs.Order.{order, NotAfter}
 use Rattle.names.proofs.Order.{order_laws, order_itself}
-use Rattle.meaning.specs.Model.{aliases, AliasOf, Set}
+use Rattle.meaning.specs.Model.{aliases, Set}
 use Rattle.meaning.specs.Says.{same, is_exactly, find}
-use Rattle.zones.specs.Sorted.{is_before, sorted, place}
-use Rattle.zones.specs.Valid.{clash, clashes, any_at}
+use Rattle.zones.specs.Sorted.{sorted, place}
+use Rattle.zones.specs.Valid.{clashes, any_at}
 use Rattle.zones.proofs.Places.{mem_at, index_of, in_order, at_place, place_left, read_at}
 use Rattle.zones.proofs.ByPlace.{not_less, not_before, up_to, told}
 use Rattle.meaning.proofs.Rules.{same_so, so_same}

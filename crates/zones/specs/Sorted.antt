@@ -26,7 +26,6 @@ unfoldable pub leading : {A : Type 0} → (A → Bool) → List A → ℕ
 leading test [] = 0
 leading test (x ∷ xs) = cond (test x) (suc (leading test xs)) 0
 
-
 -- do all pass a test, or some
 unfoldable pub each : {A : Type 0} → (A → Bool) → List A → Bool
 each test [] = true

@@ -2,7 +2,6 @@ use Rattle.std.proofs.Common.{Less, Equal, Greater, ap, ◌∙◌, rules}
 use Rattle.names.specs.Names.{labels}
 use Rattle.names.proofs.Fronts.{front_decides}
 use Rattle.records.specs.Sets.{set_of}
-use Rattle.zones.specs.Sorted.{is_before}
 use Rattle.zones.proofs.ByPlace.{before_found, kind_less}
 use Rattle.zones.proofs.fronted.is_before.Goals as goal
 use Rattle.std.specs.Ordering.{is_lt, nat_cmp}

@@ -1,4 +1,4 @@
-use Rattle.std.proofs.Common.{◌≡◌, true, false, length, sym, ap, ◌∙◌, arith, rules}
+use Rattle.std.proofs.Common.{length, sym, ap, ◌∙◌, arith, rules}
 use Rattle.names.specs.Names.{labels}
 use Rattle.names.specs.Order.{within}
 use Rattle.meaning.specs.Model.{aliases}

@@ -1,4 +1,4 @@
-use Rattle.std.proofs.Common.{◌≡◌, map, sym, ap, ◌∙◌, subst, arith}
+use Rattle.std.proofs.Common.{map, sym, ap, ◌∙◌, subst, arith}
 use Rattle.names.specs.Names.{labels}
 use Rattle.meaning.specs.Says.{is_exactly, find}
 use Rattle.records.specs.Sets.{set_of}

@@ -54,7 +54,7 @@ invariant_of-self-in-Some c =
       ordered = still_sorted set_of xs s apex true (vec_items c.insert.new.self) c.position-at.result z.ordered m at c.in_ok-insert.ensures.items;
       limited = still_valid set_of xs s apex true (vec_items c.insert.new.self) c.position-at.result z.limited m at c.in_ok-insert.ensures.items;
       cut = (λ i. cuts_of apex (is i) ((c.add_cut.ensures ∙ ap (λ ys. with_cut (labels c.in-Some.name) (map labels ys)) c.reserve.ensures.items) i))
-              ∙ more_by apex (map set_of xs) (map labels (vec_items z.cuts)) z.cut (set_of s) (labels c.in-Some.name) m.inside c.in-Some.ensures;
+          ∙ more_by apex (map set_of xs) (map labels (vec_items z.cuts)) z.cut (set_of s) (labels c.in-Some.name) m.inside c.in-Some.ensures;
       weighed = still_carried set_of xs s c.position-at.result z.carried c.transfer_len-len.result (vec_items c.insert.new.self) z.weighed c.transfer_len-len.ensures.value at c.in_ok-insert.ensures.items;
       bounded = still_bounded set_of xs s c.position-at.result z.carried c.transfer_len-len.result (vec_items c.insert.new.self) z.bounded c.transfer_len-len.ensures.bound at c.in_ok-insert.ensures.items;
       marked = marked;

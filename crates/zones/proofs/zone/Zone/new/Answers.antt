@@ -1,4 +1,4 @@
-use Rattle.std.proofs.Common.{map, length, vec_items, sym, ap, ◌∙◌, arith}
+use Rattle.std.proofs.Common.{map, length, sym, ap, ◌∙◌, arith}
 use Rattle.meaning.specs.Transfer.{all_transferred}
 use Rattle.names.specs.Names.{labels}
 use Rattle.records.specs.Sets.{set_of}
