@@ -1,8 +1,8 @@
 -- What may come into a zone, and the zone with it.
-use Rattle.std.proofs.Common.{◌≡◌, ℕ, suc, ◌+◌, ◌*◌, ◌<◌, ◌≤◌, Bool, true, false, cond, not, ◌&&◌, eqb, leb, List, [], ◌∷◌, ◌++◌, map, length, take, drop, is_some, is_ok, Some, None, Ok, Err, Option, Result, sym, refl, ap, ◌∙◌, subst, true≢false, arith}
+use Rattle.std.proofs.Common.{◌≡◌, ℕ, ◌+◌, ◌*◌, ◌≤◌, Bool, true, false, cond, not, ◌&&◌, eqb, leb, List, ◌∷◌, ◌++◌, map, length, take, drop, is_some, Ok, Err, Option, Result, sym, refl, ap, ◌∙◌, true≢false, arith}
 use Rattle.std.specs.List.{insert}
 use Rattle.std.proofs.lemmas.List.{map-append, take-map, drop-map}
-use Rattle.std.proofs.lemmas.Bool.{cond-true, and_from, not-false, not_from_false, leb-false, eq-eqb}
+use Rattle.std.proofs.lemmas.Bool.{cond-true, and_from, not_from_false, leb-false, eq-eqb}
 use Rattle.names.specs.declared.fault.Fault.{Fault}
 use Rattle.names.specs.declared.fault.Fault.TheVariants.{Misplaced, Conflict, TooMuch}
 use Rattle.names.specs.Fronts.{front_below}
@@ -10,7 +10,7 @@ use Rattle.names.specs.Order.{within}
 use Rattle.meaning.specs.Model.{delegates, Set}
 use Rattle.meaning.specs.Says.{same, is_exactly, find}
 use Rattle.zones.specs.Sorted.{fronts_of, sorted, place}
-use Rattle.zones.specs.Valid.{clashes, belongs, valid, insert_set, added}
+use Rattle.zones.specs.Valid.{clashes, valid, insert_set, added}
 use Rattle.meaning.proofs.Finding.{Found, some, none, finds}
 use Rattle.meaning.specs.Transfer.{transferred, all_transferred}
 use Rattle.zones.proofs.Insert.{New, insert_place, insert_sorted, insert_valid, insert_length, insert_carried}

@@ -1,5 +1,5 @@
 -- What the two sets on both sides of a place say is what all sets say.
-use Rattle.std.proofs.Common.{◌≡◌, ℕ, zero, suc, ◌-◌, ◌<◌, ◌≤◌, Bool, true, false, cond, not, ◌&&◌, ◌||◌, eqb, ◌⊎◌, List, [], ◌∷◌, map, length, get_or, Some, None, Option, sym, refl, ap, ◌∙◌, subst, inl, inr, ⊎_elim, true≢false, arith}
+use Rattle.std.proofs.Common.{◌≡◌, ℕ, zero, suc, ◌-◌, ◌<◌, ◌≤◌, Bool, true, false, cond, not, ◌||◌, eqb, ◌⊎◌, List, [], ◌∷◌, map, length, get_or, Some, None, Option, sym, refl, ap, ◌∙◌, subst, inl, inr, ⊎_elim, true≢false, arith}
 use mathlib.Core.List.Memᴰ
 use mathlib.Core.List.{Memᴰ}
 use lib.ListN.{length-map}
@@ -12,10 +12,10 @@ use Rattle.meaning.specs.Says.{Speaker, BySet, ByAlias, NoData, NoName, same, is
 use Rattle.meaning.specs.Speech.{undelegated}
 use Rattle.meaning.proofs.Finding.{Nothing, Found, some, none, finds, Below, one, no_one, looks_below}
 use Rattle.meaning.proofs.Rules.{same_so, so_same}
-use Rattle.zones.specs.Sorted.{is_before, sorted, place, set_at}
+use Rattle.zones.specs.Sorted.{sorted, place, set_at}
 use Rattle.zones.specs.Valid.{clash, clashes, no_clash}
 use Rattle.zones.specs.Zones.{tells_data, tells_nothing}
-use Rattle.zones.proofs.Places.{mem_at, index_of, leading_within, passes, fails, read_at}
+use Rattle.zones.proofs.Places.{mem_at, index_of, place_within, before_place, at_place, read_at}
 use Rattle.zones.proofs.ByPlace.{distinct, not_itself, exact_absent, not_less, up_to, names_rise}
 
 -- ---- what one set says
@@ -108,7 +108,7 @@ module _ (ss : List Set) (o : sorted ss ≡ true) (c : no_clash ss ≡ true) (n 
   by e a u = or_else BySet e (or_else ByAlias a (cond u NoData NoName))
 
   before_name : 0 < place n k ss → NotAfter before.name n
-  before_name l = up_to before n k (order before.name n) refl (passes (is_before n k) ss d (place n k ss - 1) (omega arith))
+  before_name l = up_to before n k (order before.name n) refl (before_place n k ss d (place n k ss - 1) (omega arith))
 
   -- whatever is at the name or below it has its name before the place, or is below it there
   sides : (s : Set) → Memᴰ s ss → within n s.name ≡ true → ((0 < place n k ss) × (before.name ≡ n)) ⊎ ((place n k ss < length ss) × (within n here.name ≡ true) × NotAfter here.name s.name)
@@ -127,11 +127,11 @@ module _ (ss : List Set) (o : sorted ss ≡ true) (c : no_clash ss ≡ true) (n 
           (λ (ge : place n k ss ≤ a.0).
           let rise : NotAfter here.name s.name = subst (NotAfter here.name) at (names_rise ss o d (place n k ss) a.0 ge l) in
           let lt : place n k ss < length ss = omega arith in
-          inr (lt, order_laws.between n here.name s.name (not_less n k here (order here.name n) refl (fails (is_before n k) ss d lt)) rise w, rise))
+          inr (lt, order_laws.between n here.name s.name (not_less n k here (order here.name n) refl (at_place n k ss d lt)) rise w, rise))
           (cases_lt a.0 (place n k ss))
         where
           place_in : place n k ss ≤ length ss
-          place_in = leading_within (is_before n k) ss
+          place_in = place_within n k ss
 
   alias_parts : (s : Set) → is_alias_at n s ≡ true → (s.name ≡ n) × (aliases s.kind ≡ true)
   alias_parts s h = let q = and_parts (same s.name n) (aliases s.kind) h in (same_so s.name n q.0, q.1)
@@ -169,15 +169,15 @@ module _ (ss : List Set) (o : sorted ss ≡ true) (c : no_clash ss ≡ true) (n 
   pub says_before : (r : Speaker) → 0 < place n k ss → (place n k ss < length ss → is_exactly n k here ≡ false) → One n k before r → (r ≡ NoName → ⊥) → r ≡ undelegated n k ss
   says_before r l h (is_data e) never =
       let q = exact_parts before e in
-      absurd (true≢false (sym (passes (is_before n k) ss d (place n k ss - 1) (omega arith)) ∙ not_itself n k before q.0 q.1))
+      absurd (true≢false (sym (before_place n k ss d (place n k ss - 1) (omega arith)) ∙ not_itself n k before q.0 q.1))
   says_before r l h (is_alias x a) never = tells_alias before (mem_at ss d (place n k ss - 1) (before_in l)) a x
     where
       before_in : 0 < place n k ss → place n k ss - 1 < length ss
-      before_in q = let pl = leading_within (is_before n k) ss in omega arith
+      before_in q = let pl = place_within n k ss in omega arith
   says_before r l h (is_below x a w) never = λ i. by (no_exact h i) (find_none ss (is_alias_at n) no_alias i) (under_some ss n before m w i)
     where
       m : Memᴰ before ss
-      m = let pl = leading_within (is_before n k) ss in mem_at ss d (place n k ss - 1) (omega arith)
+      m = let pl = place_within n k ss in mem_at ss d (place n k ss - 1) (omega arith)
 
       named : before.name ≡ n
       named = order_laws.antisymmetric before.name n (before_name l) (order_laws.above_first n before.name w)
@@ -338,7 +338,7 @@ module _ (ss : List Set) (o : sorted ss ≡ true) (c : no_clash ss ≡ true) (n 
 
   before_view : 0 < i → One n k (before ss o c n k any) (undelegated n k (set_at (i - 1) ss))
   before_view l =
-      let pl = leading_within (is_before n k) ss in
+      let pl = place_within n k ss in
       subst (λ j. One n k (get_or ss (j - 1) any) (undelegated n k (set_at (i - 1) ss))) at (view (i - 1) (omega arith))
 
   pub tells_after : 0 < i → tells_nothing (undelegated n k (set_at (i - 1) ss)) ≡ true → undelegated n k (set_at i ss) ≡ undelegated n k ss

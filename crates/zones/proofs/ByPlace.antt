@@ -1,18 +1,19 @@
 -- Searches by place find what a look through all sets finds.
-use Rattle.std.proofs.Common.{◌≡◌, ℕ, zero, suc, ◌+◌, ◌<◌, ◌≤◌, Bool, true, false, cond, eqb, ltb, ◌⊎◌, List, [], ◌∷◌, map, length, get_or, drop, Some, None, Decides, Option, Ordering, Less, Equal, Greater, sym, refl, ap, ◌∙◌, subst, inl, inr, ⊎_elim, true≢false, arith}
+use Rattle.std.proofs.Common.{◌≡◌, ℕ, nat_eq, ◌<◌, ◌≤◌, Bool, true, false, eqb, ltb, List, [], map, length, get_or, drop, Some, None, Decides, Option, Ordering, Less, Equal, Greater, sym, refl, ap, ◌∙◌, subst, ⊎_elim, true≢false, arith}
 use mathlib.Core.List.{Memᴰ}
 use lib.ListN.{length-map}
 use Rattle.std.specs.Cmp.{ranks}
+use Rattle.std.specs.Cmp.Lexicographic.{pointwise, pointwise_decides, bytes_decides}
 use Rattle.std.specs.Ordering.{is_lt, is_le, ordering_reverse, ordering_then, MatchOrdering, nat_cmp}
 use Rattle.std.proofs.lemmas.Bool.Decides.{same_from_decides}
 use Rattle.std.proofs.lemmas.Bool.{and_from, and_parts, cases_lt, cases_order, eq-eqb, eqb-true, lt-ltb, le-ltb}
 use Rattle.names.specs.Order.{order, within, NotAfter}
 use Rattle.names.proofs.Order.{order_flip, order_below, order_itself, order_laws}
 use Rattle.meaning.specs.Model.{AliasOf, Set}
-use Rattle.meaning.specs.Says.{same, is_exactly, find}
+use Rattle.meaning.specs.Says.{same, is_exactly, find, any_under}
 use Rattle.zones.specs.Sorted.{is_before, sorted, place}
-use Rattle.meaning.proofs.Finding.{Found, some, none, finds}
-use Rattle.zones.proofs.Places.{mem_at, index_of, in_order, fails, left_half, read_at}
+use Rattle.meaning.proofs.Finding.{Found, some, none, finds, Below, one, no_one, looks_below}
+use Rattle.zones.proofs.Places.{mem_at, index_of, in_order, at_place, place_left, read_at}
 use Rattle.meaning.proofs.Rules.{same_so, so_same}
 
 -- ---- keys that are the same
@@ -62,12 +63,12 @@ module _ (ss : List Set) (o : sorted ss ≡ true) (n : List (List ℕ)) (k : ℕ
           let a = index_of ss d s m in
           let nm : (get_or ss a.0 d).name ≡ n = ap (λ (x : Set). x.name) a.2 ∙ e in
           let kd : (get_or ss a.0 d).kind ≡ k = ap (λ (x : Set). x.kind) a.2 ∙ f in
-          let p = left_half (is_before n k) ss d a.0 (not_itself n k (get_or ss a.0 d) nm kd) in
+          let p = place_left n k ss d a.0 (not_itself n k (get_or ss a.0 d) nm kd) in
           let l = a.1 in
           ⊎_elim
           (λ (lt : place n k ss < a.0).
           let before : is_before n k (get_or ss (place n k ss) d) ≡ true = subst (λ x. is_before n x (get_or ss (place n k ss) d) ≡ true) kd (subst (λ x. is_before x (get_or ss a.0 d).kind (get_or ss (place n k ss) d) ≡ true) nm (in_order ss o d (place n k ss) a.0 lt l)) in
-          true≢false (sym before ∙ fails (is_before n k) ss d (omega arith)))
+          true≢false (sym before ∙ at_place n k ss d (omega arith)))
           (λ (ge : a.0 ≤ place n k ss).
           let i : a.0 ≡ place n k ss = omega arith in
           no-one-here (omega arith) (ap (λ j. (get_or ss j d).name) (sym i) ∙ nm) (ap (λ j. (get_or ss j d).kind) (sym i) ∙ kd))
@@ -112,6 +113,36 @@ names_rise ss o d i j l m =
     (λ ge. let e : i ≡ j = omega arith in subst (λ x. NotAfter (get_or ss i d).name (get_or ss x d).name) e (ap is_le (order_itself (get_or ss i d).name)))
     (cases_lt i j)
 
+-- ---- anything at or below a name
+
+module _ (ss : List Set) (o : sorted ss ≡ true) (n : List (List ℕ)) where
+  pub under_there : (d : Set) → place n 0 ss < length ss → within n (get_or ss (place n 0 ss) d).name ≡ true → true ≡ any_under n ss
+  under_there d l w = go (any_under n ss) (looks_below n ss)
+    where
+      go : (b : Bool) → Below n ss b → true ≡ b
+      go b (one s m p) = refl
+      go b (no_one h) = absurd (h (get_or ss (place n 0 ss) d) (mem_at ss d (place n 0 ss) l) w)
+
+  pub under_absent : (d : Set) → (place n 0 ss < length ss → within n (get_or ss (place n 0 ss) d).name ≡ true → ⊥) → false ≡ any_under n ss
+  under_absent d no-one-here = go (any_under n ss) (looks_below n ss)
+    where
+      clash : (s : Set) → Memᴰ s ss → within n s.name ≡ true → ⊥
+      clash s m w =
+          let a = index_of ss d s m in
+          let l = a.1 in
+          let below : within n (get_or ss a.0 d).name ≡ true = subst (λ x. within n x.name ≡ true) (sym a.2) w in
+          let p = place_left n 0 ss d a.0 (not_before n (get_or ss a.0 d) (order_laws.above_first n (get_or ss a.0 d).name below)) in
+          let first : NotAfter n (get_or ss (place n 0 ss) d).name = not_less n 0 (get_or ss (place n 0 ss) d) (order (get_or ss (place n 0 ss) d).name n) refl (at_place n 0 ss d (omega arith)) in
+          no-one-here (omega arith)
+          (⊎_elim
+          (λ (lt : place n 0 ss < a.0). order_laws.between n (get_or ss (place n 0 ss) d).name (get_or ss a.0 d).name first (up_to (get_or ss (place n 0 ss) d) (get_or ss a.0 d).name (get_or ss a.0 d).kind (order (get_or ss (place n 0 ss) d).name (get_or ss a.0 d).name) refl (in_order ss o d (place n 0 ss) a.0 lt l)) below)
+          (λ (ge : a.0 ≤ place n 0 ss). let i : a.0 ≡ place n 0 ss = omega arith in subst (λ j. within n (get_or ss j d).name ≡ true) i below)
+          (cases_lt (place n 0 ss) a.0))
+
+      go : (b : Bool) → Below n ss b → false ≡ b
+      go b (one s m p) = absurd (clash s m p)
+      go b (no_one h) = refl
+
 -- ---- the code's tests and reads
 
 rank_less : (x k : ℕ) (r : Ordering) → MatchOrdering r (x < k) (x ≡ k) (k < x) → ltb x k ≡ is_lt r
@@ -129,6 +160,13 @@ before_found apex n m k d s r v w e f h = ap (λ x. is_lt (ordering_then x (nat_
 pub same_test : (a n : List (List ℕ)) (b : Bool) → Decides b (a ≡ n) → b ≡ same a n
 same_test a n b h = same_from_decides b (same a n) h (same_so a n, so_same a n)
 
+-- `==` of names tells whether they are the same
+pub told : (a b : List (List ℕ)) → Decides (pointwise (pointwise nat_eq) a b) (a ≡ b)
+told = pointwise_decides bytes_decides
+
+pub told_same : (a n : List (List ℕ)) → pointwise (pointwise nat_eq) a n ≡ same a n
+told_same a n = same_test a n (pointwise (pointwise nat_eq) a n) (told a n)
+
 module _ {X : Type 0} (f : X → Set) (xs : List X) (n : List (List ℕ)) (k : ℕ) where
   -- the set at the place is the one, or none is
   pub exact_read : sorted (map f xs) ≡ true → (i : ℕ) (x : X) → i ≡ place n k (map f xs) → i < length xs → x ≡ get_or xs i x → true ≡ is_exactly n k (f x) → Some (f x) ≡ find (is_exactly n k) (map f xs)
@@ -145,6 +183,22 @@ module _ {X : Type 0} (f : X → Set) (xs : List X) (n : List (List ℕ)) (k : �
 
   pub exact_past : sorted (map f xs) ≡ true → (i : ℕ) → i ≡ place n k (map f xs) → length xs ≤ i → None ≡ find (is_exactly n k) (map f xs)
   exact_past o i p l = let m = length-map xs f in exact_absent (map f xs) o n k any (λ q a b. let r = q in omega arith)
+    where
+      any : Set
+      any = record { name = []; kind = 0; ttl = 0; content = AliasOf [] }
+
+module _ {X : Type 0} (f : X → Set) (xs : List X) (n : List (List ℕ)) where
+  pub under_read : sorted (map f xs) ≡ true → (i : ℕ) (x : X) (b : Bool) → i ≡ place n 0 (map f xs) → i < length xs → x ≡ get_or xs i x → b ≡ within n (f x).name → b ≡ any_under n (map f xs)
+  under_read o i x true p l e h =
+      let m = length-map xs f in
+      let here : get_or (map f xs) (place n 0 (map f xs)) (f x) ≡ f x = ap (λ j. get_or (map f xs) j (f x)) (sym p) ∙ read_at f xs i x l e in
+      under_there (map f xs) o n (f x) (omega arith) (ap (λ (s : Set). within n s.name) here ∙ sym h)
+  under_read o i x false p l e h =
+      let here : get_or (map f xs) (place n 0 (map f xs)) (f x) ≡ f x = ap (λ j. get_or (map f xs) j (f x)) (sym p) ∙ read_at f xs i x l e in
+      under_absent (map f xs) o n (f x) (λ _ w. true≢false (sym w ∙ ap (λ (s : Set). within n s.name) here ∙ sym h))
+
+  pub under_past : sorted (map f xs) ≡ true → (i : ℕ) → i ≡ place n 0 (map f xs) → length xs ≤ i → false ≡ any_under n (map f xs)
+  under_past o i p l = let m = length-map xs f in under_absent (map f xs) o n any (λ q w. let r = q in omega arith)
     where
       any : Set
       any = record { name = []; kind = 0; ttl = 0; content = AliasOf [] }

@@ -1,16 +1,16 @@
 -- A set more: the sets stay sorted and valid.
-use Rattle.std.proofs.Common.{◌≡◌, ℕ, zero, suc, ◌+◌, ◌<◌, ◌≤◌, Bool, true, false, cond, not, ◌&&◌, ◌||◌, eqb, leb, ◌⊎◌, List, [], ◌∷◌, ◌++◌, length, take, drop, Ordering, Less, Equal, Greater, sym, refl, ap, ◌∙◌, subst, inl, inr, ⊎_elim, true≢false, arith}
-use Rattle.std.specs.Cmp.{nat_cmp_total, ranks, pairs}
+use Rattle.std.proofs.Common.{◌≡◌, ℕ, suc, ◌+◌, ◌<◌, Bool, true, false, not, ◌&&◌, ◌||◌, leb, List, [], ◌∷◌, length, Ordering, Less, Equal, Greater, sym, refl, ap, ◌∙◌, subst, true≢false, arith}
+use Rattle.std.specs.Cmp.{ranks}
 use Rattle.std.specs.Ordering.{is_lt, ordering_reverse, ordering_then, MatchOrdering, nat_cmp}
 use Rattle.std.specs.List.{insert}
-use Rattle.std.proofs.lemmas.Bool.{cond-true, cond-false, and_parts, and_from, or_parts, or_from, not-true, not_from_false, le-leb, leb-false}
+use Rattle.std.proofs.lemmas.Bool.{cond-true, cond-false, and_parts, and_from, or_parts, or_from, not-true, not_from_false, le-leb}
 use Rattle.names.specs.Order.{order}
-use Rattle.names.proofs.Order.{names_total, order_equal}
+use Rattle.names.proofs.Order.{order_equal}
 use Rattle.meaning.specs.Model.{aliases, Set}
 use Rattle.meaning.specs.Says.{same}
 use Rattle.zones.specs.Sorted.{is_before, sorted, place}
 use Rattle.zones.specs.Valid.{clash, clashes, no_clash, belongs, all_belong, valid, insert_set}
-use Rattle.zones.proofs.Places.{leading_more, leading_stop, leading_nil}
+use Rattle.zones.proofs.Places.{sets_total, place_more, place_stop, place_nil}
 use Rattle.meaning.specs.Transfer.{transferred, all_transferred}
 use Rattle.meaning.proofs.Carried.{length_all, length_none}
 use Rattle.meaning.proofs.Rules.{same_so, so_same}
@@ -27,12 +27,12 @@ insert_here s t ss h = cond-false (is_before s.name s.kind t) (t ∷ insert_set 
 
 pub insert_place : (s : Set) (ss : List Set) → insert_set s ss ≡ insert ss (place s.name s.kind ss) s
 unfolding insert_set
-insert_place s [] = sym (ap (λ n. insert [] n s) (leading_nil (is_before s.name s.kind)))
+insert_place s [] = sym (ap (λ n. insert [] n s) (place_nil s.name s.kind))
 insert_place s (t ∷ ss) = go (is_before s.name s.kind t) refl (insert_place s ss)
   where
     go : (b : Bool) → is_before s.name s.kind t ≡ b → insert_set s ss ≡ insert ss (place s.name s.kind ss) s → insert_set s (t ∷ ss) ≡ insert (t ∷ ss) (place s.name s.kind (t ∷ ss)) s
-    go true e ih = insert_on s t ss e ∙ ap (λ x. t ∷ x) ih ∙ ap (λ n. insert (t ∷ ss) n s) (sym (leading_more (is_before s.name s.kind) t ss e))
-    go false e ih = insert_here s t ss e ∙ ap (λ n. insert (t ∷ ss) n s) (sym (leading_stop (is_before s.name s.kind) t ss e))
+    go true e ih = insert_on s t ss e ∙ ap (λ x. t ∷ x) ih ∙ ap (λ n. insert (t ∷ ss) n s) (sym (place_more s.name s.kind t ss e))
+    go false e ih = insert_here s t ss e ∙ ap (λ n. insert (t ∷ ss) n s) (sym (place_stop s.name s.kind t ss e))
 
 -- ---- sorted
 
@@ -41,7 +41,7 @@ after : (s t : Set) → is_before s.name s.kind t ≡ false → (t.name ≡ s.na
 after s t h other = go (order t.name s.name) refl (nat_cmp t.kind s.kind) refl (ranks t.kind s.kind)
   where
     flipped : ordering_then (order s.name t.name) (nat_cmp s.kind t.kind) ≡ ordering_reverse (ordering_then (order t.name s.name) (nat_cmp t.kind s.kind))
-    flipped = (pairs names_total nat_cmp_total).flip (s.name, s.kind) (t.name, t.kind)
+    flipped = sets_total.antisymm s t
 
     go : (a : Ordering) → order t.name s.name ≡ a → (b : Ordering) → nat_cmp t.kind s.kind ≡ b → MatchOrdering (nat_cmp t.kind s.kind) (t.kind < s.kind) (t.kind ≡ s.kind) (s.kind < t.kind) → is_before t.name t.kind s ≡ true
     go Less e b f r = absurd (true≢false (sym (ap (λ x. is_lt (ordering_then x (nat_cmp t.kind s.kind))) e) ∙ h))

@@ -1,6 +1,7 @@
 mod Picked
 mod Places
 mod ByPlace
+mod Down
 mod Beside
 mod Topmost
 mod Held

@@ -17,10 +17,10 @@ use Rattle.meaning.proofs.Rules.{so_same}
 use Rattle.zones.specs.Sorted as sorts
 use Rattle.zones.specs.Sorted.{is_before, each}
 use Rattle.zones.specs.Valid.{insert_set}
-use Rattle.zones.specs.Cuts.{apart, all_there, all_covered, cuts_of, cut_place, cut_over, next_below, beyond, with_cut, no_other, new_cut}
+use Rattle.zones.specs.Cuts.{apart, cuts_of, cut_place, cut_over, next_below, beyond, with_cut, no_other, new_cut}
 use Rattle.zones.proofs.Places.{index_of, leading_more, leading_stop, leading_nil, read_at}
 use Rattle.zones.proofs.Insert.{insert_on, insert_here}
-use Rattle.zones.proofs.Topmost.{each_so, so_each, so_some, apart_tail, apart_parts, pair_apart, Covers, covers, uncovered, looks_over, Right, right_so, so_right, at_cut, covered_so}
+use Rattle.zones.proofs.Topmost.{each_so, so_each, so_some, apart_tail, apart_parts, pair_apart, Covers, covers, uncovered, looks_over, right_so, so_right, at_cut, covered_so}
 
 -- ---- members
 

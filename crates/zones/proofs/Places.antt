@@ -1,19 +1,29 @@
 -- How many of the first elements of a list pass a test, found by halving; and where a name and kind stand among sorted sets.
-use Rattle.std.proofs.Common.{◌≡◌, ℕ, zero, suc, ◌+◌, ◌<◌, ◌≤◌, Bool, true, false, cond, ◌&&◌, ◌⊎◌, List, [], ◌∷◌, map, length, get_or, Ordering, Less, Equal, Greater, sym, refl, ap, ◌∙◌, subst, inl, inr, ⊎_elim, true≢false, arith}
+use Rattle.std.proofs.Common.{◌≡◌, ℕ, zero, suc, ◌+◌, ◌<◌, ◌≤◌, Bool, true, false, cond, ◌⊎◌, List, [], ◌∷◌, map, length, get_or, Ordering, Less, Equal, Greater, sym, refl, ap, ◌∙◌, subst, inl, inr, ⊎_elim, true≢false, arith}
 use mathlib.Core.List.Memᴰ
 use mathlib.Core.List.{Memᴰ}
 use lib.ListN.{length-map}
-use Rattle.std.specs.Cmp.{nat_cmp_total, pairs}
-use Rattle.std.specs.Ordering.{is_lt, ordering_then, nat_cmp}
+use Rattle.std.specs.Cmp.{IsTotalOrder, nat_cmp_total, on_total, then_total}
+use Rattle.std.specs.Ordering.{is_lt, ordering_then, nat_cmp, then_cmp, on}
 use Rattle.std.proofs.lemmas.List.{get_or-map}
-use Rattle.std.proofs.lemmas.Bool.{cond-true, cond-false, and_parts, cases_lt, cases_order}
+use Rattle.std.proofs.lemmas.Bool.{cond-true, cond-false, and_parts, cases_lt}
 use Rattle.names.specs.Fronts.{front_below}
-use Rattle.names.specs.Order.{order, within, NotAfter}
-use Rattle.names.proofs.Order.{names_total, order_laws}
-use Rattle.meaning.specs.Model.{Set}
+use Rattle.names.specs.Order.{order}
+use Rattle.names.specs.Comparing.{names_total}
+use Rattle.meaning.specs.Model.{AliasOf, Set}
 use Rattle.zones.specs.Sorted.{is_before, sorted, leading, place, fronts_of}
 
 -- ---- the order of keys
+
+abbrev pub sets_cmp : Set → Set → Ordering
+sets_cmp = then_cmp (on (λ (s : Set). s.name) order) (on (λ (s : Set). s.kind) nat_cmp)
+
+pub sets_total : IsTotalOrder sets_cmp
+sets_total = then_total (on_total (λ (s : Set). s.name) names_total) (on_total (λ (s : Set). s.kind) nat_cmp_total)
+
+-- a set with this key
+abbrev pub keyed : List (List ℕ) → ℕ → Set
+keyed n k = record { name = n; kind = k; ttl = 0; content = AliasOf [] }
 
 less : (r : Ordering) → is_lt r ≡ true → r ≡ Less
 less Less h = refl
@@ -23,7 +33,7 @@ less Greater h = absurd (true≢false (sym h))
 -- a set before one that stands before a key stands before the key
 pub before_trans : (s t : Set) (n : List (List ℕ)) (k : ℕ) → is_before t.name t.kind s ≡ true → is_before n k t ≡ true → is_before n k s ≡ true
 before_trans s t n k h g =
-    ap is_lt ((pairs names_total nat_cmp_total).trans (s.name, s.kind) (t.name, t.kind) (n, k) (less (ordering_then (order s.name t.name) (nat_cmp s.kind t.kind)) h) (less (ordering_then (order t.name n) (nat_cmp t.kind k)) g))
+    ap is_lt (sets_total.trans s t (keyed n k) (less (ordering_then (order s.name t.name) (nat_cmp s.kind t.kind)) h) (less (ordering_then (order t.name n) (nat_cmp t.kind k)) g))
 
 -- ---- sorted sets
 
@@ -147,3 +157,48 @@ index_of (y ∷ xs) d x m = go (index_of xs d x) (Memᴰ.cases_cons m)
 
 pub sets_fall : (n : List (List ℕ)) (k : ℕ) (ss : List Set) → sorted ss ≡ true → Falls (is_before n k) ss
 sets_fall n k ss o d i j l m h = before_trans (get_or ss i d) (get_or ss j d) n k (in_order ss o d i j l m) h
+
+-- a place is how many of the first sets stand before the key
+pub place_leading : (n : List (List ℕ)) (k : ℕ) (ss : List Set) → place n k ss ≡ leading (is_before n k) ss
+unfolding place leading
+place_leading n k [] = refl
+place_leading n k (s ∷ ss) = ap (λ m. cond (is_before n k s) (suc m) 0) (place_leading n k ss)
+
+module _ (n : List (List ℕ)) (k : ℕ) where
+  pub place_more : (s : Set) (ss : List Set) → is_before n k s ≡ true → place n k (s ∷ ss) ≡ suc (place n k ss)
+  unfolding place
+  place_more s ss h = cond-true (is_before n k s) (suc (place n k ss)) 0 h
+
+  pub place_stop : (s : Set) (ss : List Set) → is_before n k s ≡ false → place n k (s ∷ ss) ≡ 0
+  unfolding place
+  place_stop s ss h = cond-false (is_before n k s) (suc (place n k ss)) 0 h
+
+  pub place_nil : place n k [] ≡ 0
+  unfolding place
+  place_nil = refl
+
+  pub place_within : (ss : List Set) → place n k ss ≤ length ss
+  place_within ss = let e = place_leading n k ss in let w = leading_within (is_before n k) ss in omega arith
+
+  -- what stands before the place stands before the key
+  pub before_place : (ss : List Set) (d : Set) (i : ℕ) → i < place n k ss → is_before n k (get_or ss i d) ≡ true
+  before_place ss d i l = let e = place_leading n k ss in passes (is_before n k) ss d i (omega arith)
+
+  -- the set at the place doesn't
+  pub at_place : (ss : List Set) (d : Set) → place n k ss < length ss → is_before n k (get_or ss (place n k ss) d) ≡ false
+  at_place ss d l = let e = place_leading n k ss in ap (λ m. is_before n k (get_or ss m d)) e ∙ fails (is_before n k) ss d (omega arith)
+
+  -- the set at an index that doesn't is at the place or behind it
+  pub place_left : (ss : List Set) (d : Set) (i : ℕ) → is_before n k (get_or ss i d) ≡ false → place n k ss ≤ i
+  place_left ss d i h = let e = place_leading n k ss in let w = left_half (is_before n k) ss d i h in omega arith
+
+-- the two ways of a search that halves
+module _ {X : Type 0} (f : X → Set) (xs : List X) (n : List (List ℕ)) (k : ℕ) where
+  pub place_goes_left : (i : ℕ) (x : X) (b : Bool) → i < length xs → x ≡ get_or xs i x → b ≡ false → b ≡ is_before n k (f x) → place n k (map f xs) ≤ i
+  place_goes_left i x b l e fails h = let p = place_leading n k (map f xs) in let w = goes_left f xs (is_before n k) i x b l e fails h in omega arith
+
+  pub place_goes_right : sorted (map f xs) ≡ true → (i : ℕ) (x : X) (b : Bool) → i < length xs → x ≡ get_or xs i x → b ≡ true → b ≡ is_before n k (f x) → i + 1 ≤ place n k (map f xs)
+  place_goes_right o i x b l e passes h =
+      let p = place_leading n k (map f xs) in
+      let w = goes_right f xs (is_before n k) (sets_fall n k (map f xs) o) i x b l e passes h in
+      omega arith

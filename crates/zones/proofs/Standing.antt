@@ -1,20 +1,21 @@
 -- Whether a set stands at a name, and whether a new one clashes with what stands there.
-use Rattle.std.proofs.Common.{◌≡◌, ℕ, ◌+◌, ◌<◌, ◌≤◌, Bool, true, false, cond, ◌&&◌, ◌||◌, eqb, ◌⊎◌, List, [], ◌∷◌, map, length, get_or, is_some, Some, None, Decides, Option, Ordering, sym, refl, ap, ◌∙◌, subst, inl, inr, ⊎_elim, true≢false, arith}
+use Rattle.std.proofs.Common.{◌≡◌, ℕ, nat_eq, ◌<◌, ◌≤◌, Bool, true, false, cond, ◌&&◌, ◌||◌, List, [], ◌∷◌, map, length, get_or, is_some, Some, None, Option, sym, refl, ap, ◌∙◌, subst, ⊎_elim, true≢false, arith}
 use mathlib.Core.List.Memᴰ
 use mathlib.Core.List.{Memᴰ}
 use lib.ListN.{length-map}
+use Rattle.std.specs.Cmp.Lexicographic.{pointwise}
 use Rattle.std.specs.Option.{option_map}
 use Rattle.std.specs.Ordering.{is_le}
-use Rattle.std.proofs.lemmas.Bool.{cases_lt, or_left, or_parts}
+use Rattle.std.proofs.lemmas.Bool.{cases_lt}
 use Rattle.std.proofs.lemmas.Bool.Decides.{same_from_decides}
 use Rattle.names.specs.Order.{order, NotAfter}
 use Rattle.names.proofs.Order.{order_laws, order_itself}
-use Rattle.meaning.specs.Model.{aliases, AliasOf, Set}
+use Rattle.meaning.specs.Model.{aliases, Set}
 use Rattle.meaning.specs.Says.{same, is_exactly, find}
-use Rattle.zones.specs.Sorted.{is_before, sorted, place}
-use Rattle.zones.specs.Valid.{clash, clashes, any_at}
-use Rattle.zones.proofs.Places.{mem_at, index_of, in_order, fails, left_half, read_at}
-use Rattle.zones.proofs.ByPlace.{not_less, not_before, up_to}
+use Rattle.zones.specs.Sorted.{sorted, place}
+use Rattle.zones.specs.Valid.{clashes, any_at}
+use Rattle.zones.proofs.Places.{mem_at, index_of, in_order, at_place, place_left, read_at}
+use Rattle.zones.proofs.ByPlace.{not_less, not_before, up_to, told}
 use Rattle.meaning.proofs.Rules.{same_so, so_same}
 
 -- ---- a set at a name
@@ -42,8 +43,8 @@ module _ (ss : List Set) (o : sorted ss ≡ true) (n : List (List ℕ)) where
       let l = a.1 in
       let nm : n ≡ (get_or ss a.0 d).name = e ∙ ap (λ (x : Set). x.name) (sym a.2) in
       let level : NotAfter n (get_or ss a.0 d).name = subst (NotAfter n) nm (ap is_le (order_itself n)) in
-      let p = left_half (is_before n 0) ss d a.0 (not_before n (get_or ss a.0 d) level) in
-      let first : NotAfter n (get_or ss (place n 0 ss) d).name = not_less n 0 (get_or ss (place n 0 ss) d) (order (get_or ss (place n 0 ss) d).name n) refl (fails (is_before n 0) ss d (omega arith)) in (
+      let p = place_left n 0 ss d a.0 (not_before n (get_or ss a.0 d) level) in
+      let first : NotAfter n (get_or ss (place n 0 ss) d).name = not_less n 0 (get_or ss (place n 0 ss) d) (order (get_or ss (place n 0 ss) d).name n) refl (at_place n 0 ss d (omega arith)) in (
         omega arith,
         ⊎_elim
             (λ (lt : place n 0 ss < a.0).
@@ -61,8 +62,8 @@ module _ {X : Type 0} (f : X → Set) (xs : List X) (o : sorted (map f xs) ≡ t
       go b (stands s m e) = let r = (first_at (map f xs) o n s s m e).0 in let k = length-map xs f in absurd (omega arith)
       go b (none_stands h) = refl
 
-  pub at_read : (i : ℕ) (x : X) (b : Bool) → i ≡ place n 0 (map f xs) → i < length xs → x ≡ get_or xs i x → Decides b (n ≡ (f x).name) → b ≡ any_at n (map f xs)
-  at_read i x b p l e d = same_from_decides b (any_at n (map f xs)) d (so (any_at n (map f xs)) (looks_at n (map f xs)), os (any_at n (map f xs)) (looks_at n (map f xs)))
+  pub at_read : (i : ℕ) (x : X) (b : Bool) → i ≡ place n 0 (map f xs) → i < length xs → x ≡ get_or xs i x → b ≡ pointwise (pointwise nat_eq) n (f x).name → b ≡ any_at n (map f xs)
+  at_read i x b p l e h = h ∙ same_from_decides (pointwise (pointwise nat_eq) n (f x).name) (any_at n (map f xs)) (told n (f x).name) (so (any_at n (map f xs)) (looks_at n (map f xs)), os (any_at n (map f xs)) (looks_at n (map f xs)))
     where
       here : get_or (map f xs) (place n 0 (map f xs)) (f x) ≡ f x
       here = ap (λ j. get_or (map f xs) j (f x)) (sym p) ∙ read_at f xs i x l e

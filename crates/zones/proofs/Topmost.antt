@@ -1,13 +1,13 @@
 -- The topmost delegations: the one over a name speaks of it, and one search finds it.
-use Rattle.std.proofs.Common.{◌≡◌, ℕ, zero, suc, ◌+◌, ◌-◌, ◌<◌, ◌≤◌, Bool, true, false, cond, not, ◌&&◌, ◌||◌, eqb, ltb, ◌⊎◌, List, [], ◌∷◌, map, length, get_or, drop, is_some, Some, None, Option, Ordering, Less, Equal, Greater, sym, refl, ap, ◌∙◌, subst, inl, inr, ⊎_elim, true≢false, arith}
+use Rattle.std.proofs.Common.{◌≡◌, ℕ, zero, suc, ◌-◌, ◌<◌, ◌≤◌, Bool, true, false, cond, not, ◌&&◌, ◌||◌, eqb, ltb, List, [], ◌∷◌, map, length, get_or, drop, is_some, Some, None, Option, Ordering, Less, Equal, Greater, sym, refl, ap, ◌∙◌, subst, ⊎_elim, true≢false, arith}
 use mathlib.Core.List.Memᴰ
 use mathlib.Core.List.{Memᴰ}
 use lib.ListN.{length-map}
 use Rattle.std.specs.Ordering.{is_lt, is_le}
-use Rattle.std.proofs.lemmas.Bool.{and_from, and_parts, or_left, or_right, or_cases, cond-true, cond-false, not-true, not_from_false, not_from_true, cases_lt, cases_Bool, eq-eqb, eqb-true, ltb-true, lt-ltb}
+use Rattle.std.proofs.lemmas.Bool.{and_from, and_parts, or_left, or_right, or_cases, cond-true, cond-false, not-true, not_from_true, cases_lt, eq-eqb, eqb-true, lt-ltb}
 use Rattle.names.specs.Order.{order, within, NotAfter}
-use Rattle.names.proofs.Order.{order_laws, order_itself, order_below}
-use Rattle.names.proofs.Within.{within_laws, within_itself, within_level}
+use Rattle.names.proofs.Order.{order_laws, order_below}
+use Rattle.names.proofs.Within.{within_laws, within_level}
 use Rattle.meaning.specs.Model.{delegates, Set}
 use Rattle.meaning.specs.Says.{same, is_over, is_exactly, find, highest}
 use Rattle.meaning.proofs.Finding.{Found, some, none, finds, Highest, high, none_high, finds_highest}
@@ -17,7 +17,7 @@ use Rattle.zones.specs.Sorted as sorts
 use Rattle.zones.specs.Sorted.{sorted, leading, each}
 use Rattle.zones.specs.Valid.{belongs, all_belong}
 use Rattle.zones.specs.Cuts.{apart, all_below, all_there, all_covered, cuts_of, cut_place, cut_over}
-use Rattle.zones.proofs.Places.{mem_at, index_of, Falls, passes, fails, leading_within, right_half, read_at}
+use Rattle.zones.proofs.Places.{mem_at, index_of, Falls, passes, leading_within, right_half, read_at}
 use Rattle.zones.proofs.ByPlace.{distinct}
 
 -- ---- all of a list, and some of it

@@ -16,14 +16,15 @@ sorted [] = true
 sorted (s ∷ []) = true
 sorted (s ∷ t ∷ ss) = is_before t.name t.kind s && sorted (t ∷ ss)
 
+-- how many sets stand before a name and kind
+unfoldable pub place : List (List ℕ) → ℕ → List Set → ℕ
+place n k [] = 0
+place n k (s ∷ ss) = cond (is_before n k s) (suc (place n k ss)) 0
+
 -- how many of the first pass a test
 unfoldable pub leading : {A : Type 0} → (A → Bool) → List A → ℕ
 leading test [] = 0
 leading test (x ∷ xs) = cond (test x) (suc (leading test xs)) 0
-
--- how many sets stand before a name and kind
-abbrev pub place : List (List ℕ) → ℕ → List Set → ℕ
-place n k = leading (is_before n k)
 
 -- do all pass a test, or some
 unfoldable pub each : {A : Type 0} → (A → Bool) → List A → Bool

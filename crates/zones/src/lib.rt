@@ -4,10 +4,13 @@
 ghost use Rattle.zones.specs.Sorted.{SortedDistinct};
 
 mod cuts;
+mod fronted;
 mod reply;
 mod search;
 mod zone;
 
+pub use meaning::{cases_hold, says_laws, says_means};
+pub use records::{Address, Data, Delegation, Kind, RecordSet, Serial, Ttl};
 pub use reply::Reply;
 pub use zone::{MAX_SETS, Zone};
 

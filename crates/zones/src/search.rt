@@ -1,34 +1,20 @@
-// Searches of sorted record sets: each halves, and finds what a look through all of them would find. All sets and the name
-// looked for are within the apex, so only the labels below it are compared, and these only where the fronts, which are
-// numbers, are the same.
-ghost use Rattle.std.specs.Prelude.{◌≡◌, ◌≤◌, true, [], ◌∷◌, map, length};
+// Searches of sorted record sets: each halves, and finds what a look through all of them would find.
+ghost use Rattle.std.specs.Prelude.{◌≡◌, true, map};
 ghost use Rattle.std.specs.Option.{option_map};
-ghost use Rattle.names.specs.Fronts.{front_below};
 ghost use Rattle.names.specs.Names.{labels};
-ghost use Rattle.names.specs.Order.{within};
-ghost use Rattle.meaning.specs.Says.{is_exactly, find};
-ghost use Rattle.meaning.specs.Speech.{undelegated};
+ghost use Rattle.meaning.specs.Says.{is_over, is_exactly, find, highest, any_under};
 ghost use Rattle.records.specs.Sets.{set_of};
-ghost use Rattle.zones.specs.Sorted.{is_before, place, set_at, Searchable};
-ghost use Rattle.zones.specs.Valid.{any_at, no_clash};
-ghost use Rattle.zones.specs.Zones.{speaker_of};
+ghost use Rattle.zones.specs.Sorted.{is_before, sorted, place};
+ghost use Rattle.zones.specs.Valid.{any_at};
 
-use crate::reply::Reply;
 use names::Name;
-use records::RecordSet;
+use records::{DELEGATION, RecordSet};
 use std::cmp::Ordering;
 
-fn is_before(set: &RecordSet, own: u64, apex: &Name, name: &Name, sought: u64, kind: u8) -> bool
-    requires inside { within (labels apex.now) (set_of set.now).name ≡ true }
-    requires asked { within (labels apex.now) (labels name.now) ≡ true }
-    requires front { own ≡ front_below (length (labels apex.now)) (set_of set.now).name }
-    requires fronted { sought ≡ front_below (length (labels apex.now)) (labels name.now) }
+fn is_before(set: &RecordSet, name: &Name, kind: u8) -> bool
     ensures { result ≡ is_before (labels name.now) kind (set_of set.now) }
 {
-    if own != sought {
-        return own < sought;
-    }
-    match set.name().compare_below(name, apex.label_count()) {
+    match set.name().cmp(name) {
         Ordering::Less => true,
         Ordering::Equal => set.kind().number() < kind,
         Ordering::Greater => false,
@@ -36,17 +22,15 @@ fn is_before(set: &RecordSet, own: u64, apex: &Name, name: &Name, sought: u64, k
 }
 
 // How many sets stand before a name and kind.
-pub fn position(sets: &[RecordSet], fronts: &[u64], apex: &Name, name: &Name, kind: u8) -> usize
-    requires { Searchable (labels apex.now) (labels name.now) fronts.now (map set_of sets.now) }
-    ensures value { result ≡ place (labels name.now) kind (map set_of sets.now) }
-    ensures bound { result ≤ length sets.now }
+pub fn position(sets: &[RecordSet], name: &Name, kind: u8) -> usize
+    requires { sorted (map set_of sets.now) ≡ true }
+    ensures { result ≡ place (labels name.now) kind (map set_of sets.now) }
 {
-    let sought = name.front_below(apex.label_count());
     let mut low: usize = 0;
     let mut high: usize = sets.len();
     while low < high {
         let middle = low + (high - low) / 2;
-        if is_before(&sets[middle], fronts[middle], apex, name, sought, kind) {
+        if is_before(&sets[middle], name, kind) {
             low = middle + 1;
         } else {
             high = middle;
@@ -56,17 +40,11 @@ pub fn position(sets: &[RecordSet], fronts: &[u64], apex: &Name, name: &Name, ki
 }
 
 // The set of a name and kind.
-pub fn find_exact<'a>(
-    sets: &'a [RecordSet],
-    fronts: &[u64],
-    apex: &Name,
-    name: &Name,
-    kind: u8,
-) -> Option<&'a RecordSet>
-    requires { Searchable (labels apex.now) (labels name.now) fronts.now (map set_of sets.now) }
+pub fn find_exact<'a>(sets: &'a [RecordSet], name: &Name, kind: u8) -> Option<&'a RecordSet>
+    requires { sorted (map set_of sets.now) ≡ true }
     ensures { option_map (λ s. set_of s.now) result ≡ find (is_exactly (labels name.now) kind) (map set_of sets.now) }
 {
-    let at = position(sets, fronts, apex, name, kind);
+    let at = position(sets, name, kind);
     if at >= sets.len() {
         return None;
     }
@@ -84,71 +62,39 @@ pub fn is_exactly(set: &RecordSet, name: &Name, kind: u8) -> bool
     *set.name() == *name && set.kind().number() == kind
 }
 
+// Whether anything stands at a name or below it.
+pub fn is_under(sets: &[RecordSet], name: &Name) -> bool
+    requires { sorted (map set_of sets.now) ≡ true }
+    ensures { result ≡ any_under (labels name.now) (map set_of sets.now) }
+{
+    let at = position(sets, name, 0);
+    if at >= sets.len() {
+        return false;
+    }
+    sets[at].name().is_within(name)
+}
+
 // Whether a set stands at a name.
-pub fn is_at(sets: &[RecordSet], fronts: &[u64], apex: &Name, name: &Name) -> bool
-    requires { Searchable (labels apex.now) (labels name.now) fronts.now (map set_of sets.now) }
+pub fn is_at(sets: &[RecordSet], name: &Name) -> bool
+    requires { sorted (map set_of sets.now) ≡ true }
     ensures { result ≡ any_at (labels name.now) (map set_of sets.now) }
 {
-    let at = position(sets, fronts, apex, name, 0);
+    let at = position(sets, name, 0);
     if at >= sets.len() {
         return false;
     }
     *name == *sets[at].name()
 }
 
-// What one set says of a name and kind, where it stands alone.
-fn reply_of<'a>(set: &'a RecordSet, name: &Name, kind: u8) -> Reply<'a>
-    ensures { speaker_of result ≡ undelegated (labels name.now) kind (set_of set.now ∷ []) }
+// The highest delegation at a name or above it, and below the apex: the first that is met from the apex down.
+pub fn find_delegation<'a>(sets: &'a [RecordSet], apex: &Name, name: &Name) -> Option<&'a RecordSet>
+    requires { sorted (map set_of sets.now) ≡ true }
+    ensures { option_map (λ s. set_of s.now) result ≡ highest (is_over (labels apex.now) (labels name.now)) (map set_of sets.now) }
 {
-    let own = set.name();
-    let own_kind = set.kind();
-    if !own.is_within(name) {
-        return Reply::NoName;
+    for depth in apex.label_count()..name.label_count() {
+        if let Some(set) = find_exact(sets, &name.ancestor(depth + 1), DELEGATION) {
+            return Some(set);
+        }
     }
-    if own.label_count() != name.label_count() {
-        return Reply::NoData;
-    }
-    if own_kind.number() == kind {
-        return Reply::Data(set);
-    }
-    if own_kind.is_alias() {
-        return Reply::Alias(set);
-    }
-    Reply::NoData
-}
-
-// What the set at an index says, or that there is none.
-fn reply_at<'a>(sets: &'a [RecordSet], at: usize, name: &Name, kind: u8) -> Reply<'a>
-    ensures { speaker_of result ≡ undelegated (labels name.now) kind (set_at at (map set_of sets.now)) }
-{
-    if at < sets.len() {
-        reply_of(&sets[at], name, kind)
-    } else {
-        Reply::NoName
-    }
-}
-
-// What the sets say of a name and kind that no delegation is over: the two on both sides of their place say it. An alias
-// stands alone at its name, and what is below a name stands right behind it.
-pub fn reply_among<'a>(
-    sets: &'a [RecordSet],
-    fronts: &[u64],
-    apex: &Name,
-    name: &Name,
-    kind: u8,
-) -> Reply<'a>
-    requires search { Searchable (labels apex.now) (labels name.now) fronts.now (map set_of sets.now) }
-    requires alone { no_clash (map set_of sets.now) ≡ true }
-    ensures { speaker_of result ≡ undelegated (labels name.now) kind (map set_of sets.now) }
-{
-    let at = position(sets, fronts, apex, name, kind);
-    let here = reply_at(sets, at, name, kind);
-    if here.is_data() {
-        return here;
-    }
-    if at == 0 {
-        return here;
-    }
-    let before = reply_at(sets, at - 1, name, kind);
-    if before.is_no_name() { here } else { before }
+    None
 }

@@ -11,7 +11,8 @@ ghost use Rattle.zones.specs.Zones.{zone_of, zone_from, Inserts};
 
 use super::{MAX_SETS, Zone};
 use crate::cuts::{add_cut, find_cut};
-use crate::search::{find_exact, is_at, position};
+use crate::fronted::position;
+use crate::search::{find_exact, is_at};
 use names::{Fault, Name};
 use records::{ALIAS, RecordSet, Serial, Ttl};
 use std::alloc::Global;
@@ -43,30 +44,20 @@ impl Zone {
 
     // An alias stands alone at its name, whichever of the two came first.
     fn has_clash(&self, set: &RecordSet) -> bool
-        requires { within (zone_of self.now).apex (set_of set.now).name ≡ true }
         ensures { result ≡ clashes (set_of set.now) (zone_of self.now).sets }
     {
         let sets = self.sets.as_slice();
-        let fronts = self.fronts.as_slice();
         if set.kind().is_alias() {
-            is_at(sets, fronts, &self.apex, set.name())
+            is_at(sets, set.name())
         } else {
-            find_exact(sets, fronts, &self.apex, set.name(), ALIAS).is_some()
+            find_exact(sets, set.name(), ALIAS).is_some()
         }
     }
 
     fn has_equal(&self, set: &RecordSet) -> bool
-        requires { within (zone_of self.now).apex (set_of set.now).name ≡ true }
         ensures { result ≡ is_some (find (is_exactly (set_of set.now).name (set_of set.now).kind) (zone_of self.now).sets) }
     {
-        find_exact(
-            self.sets.as_slice(),
-            self.fronts.as_slice(),
-            &self.apex,
-            set.name(),
-            set.kind().number(),
-        )
-        .is_some()
+        find_exact(self.sets.as_slice(), set.name(), set.kind().number()).is_some()
     }
 
     fn is_at_apex(&self, set: &RecordSet) -> bool

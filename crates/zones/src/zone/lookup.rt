@@ -13,8 +13,9 @@ ghost use Rattle.zones.specs.Zones.{zone_of};
 
 use super::Zone;
 use crate::cuts::find_cut;
+use crate::fronted::{find_exact, reply_among};
 use crate::reply::Reply;
-use crate::search::{find_exact, is_exactly, reply_among};
+use crate::search::{find_delegation, is_exactly, is_under};
 use names::{Fault, Name};
 use records::{DELEGATION, Kind, RecordSet, Serial, Ttl};
 use std::alloc::Global;
@@ -37,10 +38,17 @@ impl Zone {
         }
     }
 
+    // Of a name outside the apex only this is to say: whether a set is below it.
     fn reply(&self, name: &Name, kind: Kind) -> Reply<'_>
-        requires { within (zone_of self.now).apex (labels name.now) ≡ true }
         ensures { speaker_of result ≡ speaker (zone_of self.now) (labels name.now) kind.number }
     {
+        if !name.is_within(&self.apex) {
+            return if is_under(self.sets.as_slice(), name) {
+                Reply::NoData
+            } else {
+                Reply::NoName
+            };
+        }
         match self.find_delegation(name) {
             Some(set) => Reply::Referral(set),
             None => reply_among(
@@ -81,10 +89,7 @@ impl Zone {
     pub fn is_hidden(&self, set: &RecordSet) -> bool
         ensures { result ≡ is_hidden (zone_of self.now) (set_of set.now) }
     {
-        if !set.name().is_within(&self.apex) {
-            return false;
-        }
-        match self.find_delegation(set.name()) {
+        match find_delegation(self.sets.as_slice(), &self.apex, set.name()) {
             None => false,
             Some(over) => !is_exactly(over, set.name(), set.kind().number()),
         }

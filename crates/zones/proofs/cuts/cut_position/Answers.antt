@@ -1,4 +1,4 @@
-use Rattle.std.proofs.Common.{true, false, map, sym, refl, ap, ◌∙◌, arith}
+use Rattle.std.proofs.Common.{true, false, map, refl, arith}
 use lib.ListN.{length-map}
 use Rattle.std.specs.Ordering.{is_le}
 use Rattle.names.specs.Names.{labels}

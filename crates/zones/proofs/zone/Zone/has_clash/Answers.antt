@@ -1,23 +1,10 @@
-use Rattle.std.proofs.Common.{◌≡◌, true, map, is_some, vec_items, sym, ap, ◌∙◌, subst}
-use Rattle.names.specs.Names.{labels}
-use Rattle.names.specs.Order.{within}
+use Rattle.std.proofs.Common.{map, is_some, vec_items, sym, ap, ◌∙◌}
 use Rattle.meaning.specs.Model.{aliases}
 use Rattle.meaning.specs.Says.{is_exactly, find}
 use Rattle.records.specs.Sets.{set_of}
 use Rattle.zones.specs.Valid.{any_at}
-use Rattle.zones.proofs.Held.{held}
 use Rattle.zones.proofs.Standing.{alias_clashes, plain_clashes, some_mapped}
 use Rattle.zones.proofs.zone.Zone.has_clash.Goals as goal
-
-pub is_at-requires : goal.is_at-requires
-is_at-requires c =
-    let z = c.args.self.now in
-    held set_of (labels z.apex) (labels c.name.result.now) c.as_slice-sets.result.now (vec_items z.sets) c.as_slice-sets.ensures.value z.ordered z.limited (subst (λ m. within (labels z.apex) m ≡ true) (sym c.name.ensures) c.requires) c.as_slice-fronts.result.now (c.as_slice-fronts.ensures.value ∙ z.marked)
-
-pub find_exact-requires : goal.find_exact-requires
-find_exact-requires c =
-    let z = c.args.self.now in
-    held set_of (labels z.apex) (labels c.name-else-is_alias.result.now) c.as_slice-sets.result.now (vec_items z.sets) c.as_slice-sets.ensures.value z.ordered z.limited (subst (λ m. within (labels z.apex) m ≡ true) (sym c.name-else-is_alias.ensures) c.requires) c.as_slice-fronts.result.now (c.as_slice-fronts.ensures.value ∙ z.marked)
 
 pub returns-then-is_alias : goal.returns-then-is_alias
 returns-then-is_alias c =

@@ -49,20 +49,16 @@ invariant_of-self-in-Some c =
     let m = may apex (map set_of xs) (set_of s) (insert_set (set_of s) (map set_of xs)) c.in_ok-check.ensures in
     let at = c.position-at.ensures.value ∙ (λ i. place (c.name.ensures i) ((c.number.ensures ∙ c.kind.ensures) i) (map set_of (c.as_slice.ensures.value i))) in
     let marked = still_marked set_of xs s (length apex) c.position-at.result c.front_below-front.result (is_ok c.insert-2.result) (vec_items z.fronts) (vec_items c.reserve-2.new.self) (vec_items c.insert-2.new.self) (vec_items c.insert.new.self) z.marked (c.front_below-front.ensures ∙ (λ i. front_below (c.label_count.ensures i) (c.name-2.ensures i))) c.in_ok-insert.ensures.items c.reserve-2.ensures.items (c.insert-2.ensures.succeeds (omega (arith, c.in_ok-reserve-2.ensures.ok))) c.insert-2.ensures.items in
-    let is = ap (map set_of) c.in_ok-insert.ensures.items ∙ put_in set_of xs s c.position-at.result at in (
-      still_sorted set_of xs s apex true (vec_items c.insert.new.self) c.position-at.result z.ordered m at c.in_ok-insert.ensures.items,
-      (
-        still_valid set_of xs s apex true (vec_items c.insert.new.self) c.position-at.result z.limited m at c.in_ok-insert.ensures.items,
-        (
-          (λ i. cuts_of apex (is i) ((c.add_cut.ensures ∙ ap (λ ys. with_cut (labels c.in-Some.name) (map labels ys)) c.reserve.ensures.items) i))
-              ∙ more_by apex (map set_of xs) (map labels (vec_items z.cuts)) z.cut (set_of s) (labels c.in-Some.name) m.inside c.in-Some.ensures,
-          (
-            still_carried set_of xs s c.position-at.result z.carried c.transfer_len-len.result (vec_items c.insert.new.self) z.weighed c.transfer_len-len.ensures.value at c.in_ok-insert.ensures.items,
-            (still_bounded set_of xs s c.position-at.result z.carried c.transfer_len-len.result (vec_items c.insert.new.self) z.bounded c.transfer_len-len.ensures.bound at c.in_ok-insert.ensures.items, (marked, tt)),
-          ),
-        ),
-      ),
-    )
+    let is = ap (map set_of) c.in_ok-insert.ensures.items ∙ put_in set_of xs s c.position-at.result at in
+    record {
+      ordered = still_sorted set_of xs s apex true (vec_items c.insert.new.self) c.position-at.result z.ordered m at c.in_ok-insert.ensures.items;
+      limited = still_valid set_of xs s apex true (vec_items c.insert.new.self) c.position-at.result z.limited m at c.in_ok-insert.ensures.items;
+      cut = (λ i. cuts_of apex (is i) ((c.add_cut.ensures ∙ ap (λ ys. with_cut (labels c.in-Some.name) (map labels ys)) c.reserve.ensures.items) i))
+          ∙ more_by apex (map set_of xs) (map labels (vec_items z.cuts)) z.cut (set_of s) (labels c.in-Some.name) m.inside c.in-Some.ensures;
+      weighed = still_carried set_of xs s c.position-at.result z.carried c.transfer_len-len.result (vec_items c.insert.new.self) z.weighed c.transfer_len-len.ensures.value at c.in_ok-insert.ensures.items;
+      bounded = still_bounded set_of xs s c.position-at.result z.carried c.transfer_len-len.result (vec_items c.insert.new.self) z.bounded c.transfer_len-len.ensures.bound at c.in_ok-insert.ensures.items;
+      marked = marked;
+    }
 
 pub invariant_of-self-in_default : goal.invariant_of-self-in_default
 invariant_of-self-in_default c =
@@ -73,19 +69,15 @@ invariant_of-self-in_default c =
     let m = may apex (map set_of xs) (set_of s) (insert_set (set_of s) (map set_of xs)) c.in_ok-check.ensures in
     let at = c.position-at.ensures.value ∙ (λ i. place (c.name.ensures i) ((c.number.ensures ∙ c.kind.ensures) i) (map set_of (c.as_slice.ensures.value i))) in
     let marked = still_marked set_of xs s (length apex) c.position-at.result c.front_below-front.result (is_ok c.insert-2.result) (vec_items z.fronts) (vec_items c.reserve-2.new.self) (vec_items c.insert-2.new.self) (vec_items c.insert.new.self) z.marked (c.front_below-front.ensures ∙ (λ i. front_below (c.label_count.ensures i) (c.name-2.ensures i))) c.in_ok-insert.ensures.items c.reserve-2.ensures.items (c.insert-2.ensures.succeeds (omega (arith, c.in_ok-reserve-2.ensures.ok))) c.insert-2.ensures.items in
-    let is = ap (map set_of) c.in_ok-insert.ensures.items ∙ put_in set_of xs s c.position-at.result at in (
-      still_sorted set_of xs s apex true (vec_items c.insert.new.self) c.position-at.result z.ordered m at c.in_ok-insert.ensures.items,
-      (
-        still_valid set_of xs s apex true (vec_items c.insert.new.self) c.position-at.result z.limited m at c.in_ok-insert.ensures.items,
-        (
-          (λ i. cuts_of apex (is i) (map labels (c.reserve.ensures.items i))) ∙ kept_by apex (map set_of xs) (map labels (vec_items z.cuts)) z.cut (set_of s) c.in_default.ensures,
-          (
-            still_carried set_of xs s c.position-at.result z.carried c.transfer_len-len.result (vec_items c.insert.new.self) z.weighed c.transfer_len-len.ensures.value at c.in_ok-insert.ensures.items,
-            (still_bounded set_of xs s c.position-at.result z.carried c.transfer_len-len.result (vec_items c.insert.new.self) z.bounded c.transfer_len-len.ensures.bound at c.in_ok-insert.ensures.items, (marked, tt)),
-          ),
-        ),
-      ),
-    )
+    let is = ap (map set_of) c.in_ok-insert.ensures.items ∙ put_in set_of xs s c.position-at.result at in
+    record {
+      ordered = still_sorted set_of xs s apex true (vec_items c.insert.new.self) c.position-at.result z.ordered m at c.in_ok-insert.ensures.items;
+      limited = still_valid set_of xs s apex true (vec_items c.insert.new.self) c.position-at.result z.limited m at c.in_ok-insert.ensures.items;
+      cut = (λ i. cuts_of apex (is i) (map labels (c.reserve.ensures.items i))) ∙ kept_by apex (map set_of xs) (map labels (vec_items z.cuts)) z.cut (set_of s) c.in_default.ensures;
+      weighed = still_carried set_of xs s c.position-at.result z.carried c.transfer_len-len.result (vec_items c.insert.new.self) z.weighed c.transfer_len-len.ensures.value at c.in_ok-insert.ensures.items;
+      bounded = still_bounded set_of xs s c.position-at.result z.carried c.transfer_len-len.result (vec_items c.insert.new.self) z.bounded c.transfer_len-len.ensures.bound at c.in_ok-insert.ensures.items;
+      marked = marked;
+    }
 
 pub returns-in-Some : goal.returns-in-Some
 returns-in-Some c =

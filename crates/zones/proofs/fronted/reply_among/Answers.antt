@@ -3,7 +3,7 @@ use Rattle.names.specs.Names.{labels}
 use Rattle.records.specs.Sets.{set_of}
 use Rattle.zones.specs.Zones.{tells_data, tells_nothing}
 use Rattle.zones.proofs.Beside.{tells_here, tells_first, tells_after, tells_before}
-use Rattle.zones.proofs.search.reply_among.Goals as goal
+use Rattle.zones.proofs.fronted.reply_among.Goals as goal
 
 pub returns-then-is_data : goal.returns-then-is_data
 returns-then-is_data c =

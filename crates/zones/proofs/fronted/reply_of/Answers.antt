@@ -1,10 +1,10 @@
-use Rattle.std.proofs.Common.{◌≡◌, true, false, length, sym, ap, ◌∙◌, arith, rules}
+use Rattle.std.proofs.Common.{length, sym, ap, ◌∙◌, arith, rules}
 use Rattle.names.specs.Names.{labels}
 use Rattle.names.specs.Order.{within}
 use Rattle.meaning.specs.Model.{aliases}
 use Rattle.records.specs.Sets.{set_of}
 use Rattle.zones.proofs.Beside.{of_other, of_below, of_data, of_alias, of_empty}
-use Rattle.zones.proofs.search.reply_of.Goals as goal
+use Rattle.zones.proofs.fronted.reply_of.Goals as goal
 
 pub returns-then-not-is_within : goal.returns-then-not-is_within
 returns-then-not-is_within c =
