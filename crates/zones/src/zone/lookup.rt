@@ -38,7 +38,7 @@ impl Zone {
         }
     }
 
-    // Of a name outside the apex only this is to say: whether a set is below it.
+    // Outside the apex no set stands at the name and no delegation over it: all that is left is whether one is below it.
     fn reply(&self, name: &Name, kind: Kind) -> Reply<'_>
         ensures { speaker_of result ≡ speaker (zone_of self.now) (labels name.now) kind.number }
     {
