@@ -1,23 +1,15 @@
 -- Places of keys in a list in which no two entries have one key.
-use Rattle.std.proofs.Common.{◌≡◌, ℕ, nat_eq, zero, suc, ◌<◌, ◌≤◌, Bool, true, false, List, [], ◌∷◌, map, length, get_or, Some, None, sym, refl, ap, ◌∙◌, arith}
+use Rattle.std.proofs.Common.{◌≡◌, ℕ, zero, suc, ◌<◌, ◌≤◌, Bool, true, false, List, [], ◌∷◌, map, length, get_or, Some, None, sym, refl, ap, ◌∙◌, arith}
 use mathlib.Core.List.{Memᴰ}
 use lib.ListN.{length-map}
 use Rattle.std.specs.Option.{option_map}
 use Rattle.std.specs.List.{slice_get}
 use Rattle.std.proofs.lemmas.List.{get_or-map}
 use Rattle.std.proofs.lemmas.Option.{slice_get-get_or, slice_get_past}
-use Rattle.std.proofs.lemmas.Bool.Decides.{same_from_decides}
-use Rattle.std.specs.Cmp.Lexicographic.{pointwise}
-use Rattle.names.proofs.Within.{names_told}
-use Rattle.meaning.specs.Says.{same}
 use Rattle.meaning.specs.Speech.{Empty}
-use Rattle.meaning.proofs.Rules.{same_so, so_same}
 use Rattle.protocol.specs.World.{Entry}
 use Rattle.machine.specs.Store.{place_of, one_a_key}
 use Rattle.machine.proofs.Keys.{of_key, key_so, so_key, one_tail, one_head, place_here, place_there}
-
-pub same_test : (a n : List (List ℕ)) (b : Bool) → b ≡ pointwise (pointwise nat_eq) a n → b ≡ same a n
-same_test a n b h = same_from_decides b (same a n) (names_told a n b h) (same_so a n, so_same a n)
 
 -- some entry of a key
 abbrev pub probe : List (List ℕ) → List (List ℕ) → ℕ → Entry

@@ -1,9 +1,11 @@
 -- The function and the rules say the same, and the rules have one answer.
-use Rattle.std.proofs.Common.{◌≡◌, ℕ, ◌<◌, ◌≤◌, Bool, true, cond, ◌&&◌, eqb, ltb, List, length, Some, None, Option, sym, refl, ap, ◌∙◌, subst, ⊎_elim, arith}
+use Rattle.std.proofs.Common.{◌≡◌, ℕ, nat_eq, ◌<◌, ◌≤◌, Bool, true, cond, ◌&&◌, eqb, ltb, List, length, Some, None, Decides, Option, sym, refl, ap, ◌∙◌, subst, ⊎_elim, arith}
 use mathlib.Core.List.{Memᴰ}
+use Rattle.std.specs.Cmp.Lexicographic.{pointwise}
+use Rattle.std.proofs.lemmas.Bool.Decides.{same_from_decides}
 use Rattle.std.proofs.lemmas.Bool.{and_parts, and_from, eqb-true, eq-eqb, ltb-true, lt-ltb}
 use Rattle.names.specs.Order.{within}
-use Rattle.names.proofs.Within.{within_laws, within_level, within_itself}
+use Rattle.names.proofs.Within.{within_laws, within_level, within_itself, names_told}
 use Rattle.meaning.specs.Model.{delegates, aliases, Set, Zone}
 use Rattle.meaning.specs.Says.{Speaker, ByDelegation, BySet, ByAlias, NoData, NoName, Over, Exactly, AliasAt, No, Rule, refers, tells, points, empty, absent, same, is_over, is_exactly, is_alias_at, find, highest, any_under, or_else, speaker, says, Distinct, SameSets, SaysMeans}
 use Rattle.meaning.proofs.Finding.{Found, some, none, finds, Highest, high, none_high, finds_highest, Below, one, no_one, looks_below}
@@ -17,6 +19,14 @@ same_so a b h =
 
 pub so_same : (a b : List (List ℕ)) → a ≡ b → same a b ≡ true
 so_same a b e = subst (λ x. same a x ≡ true) e (and_from (eqb (length a) (length a)) (within a a) (eq-eqb (length a) (length a) refl) (within_itself a))
+
+-- another test of whether two names are the same answers alike
+pub same_test : (a n : List (List ℕ)) (b : Bool) → Decides b (a ≡ n) → b ≡ same a n
+same_test a n b h = same_from_decides b (same a n) h (same_so a n, so_same a n)
+
+-- as `==` of names does
+pub told_same : (a n : List (List ℕ)) → pointwise (pointwise nat_eq) a n ≡ same a n
+told_same a n = same_test a n (pointwise (pointwise nat_eq) a n) (names_told a n)
 
 module _ (z : Zone) (q : List (List ℕ)) where
   pub over_so : (s : Set) → Memᴰ s z.sets → is_over z.apex q s ≡ true → Over z q s

@@ -7,7 +7,7 @@ use Rattle.std.proofs.lemmas.List.{drop_at, drop_more}
 use Rattle.std.proofs.lemmas.Bool.{and_parts, and_from, cases_lt}
 use Rattle.names.specs.Order.{same_label, label_order, within, order, NotAfter, OrderLaws}
 use Rattle.names.specs.Comparing.{names_total}
-use Rattle.names.proofs.Within.{same_label_lem, within_front}
+use Rattle.names.proofs.Within.{same_label_lem, within_front, names_told}
 
 -- ---- for any total order
 
@@ -124,6 +124,7 @@ order_laws = record {
   total = order_total;
   transitive = order_transitive;
   antisymmetric = order_antisymmetric;
+  told = names_told;
   equal = λ a b. (order_equal a b, λ e. subst (λ c. order a c ≡ Equal) e (order_itself a));
   above_first = order_above_first;
   between = order_between;

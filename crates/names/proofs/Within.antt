@@ -1,5 +1,5 @@
 -- When one name lies within another: laws, and the step of the loop that finds out.
-use Rattle.std.proofs.Common.{◌≡◌, ℕ, nat_eq, ◌+◌, ◌<◌, ◌≤◌, Bool, true, false, ◌&&◌, ◌⊎◌, List, [], ◌∷◌, ◌++◌, length, Decides, subst, get_or, drop, sym, refl, ap, ◌∙◌, inl, inr, ⊎_elim, true≢false, arith}
+use Rattle.std.proofs.Common.{◌≡◌, ℕ, nat_eq, ◌+◌, ◌<◌, ◌≤◌, Bool, true, false, ◌&&◌, ◌⊎◌, List, [], ◌∷◌, ◌++◌, length, Decides, get_or, drop, sym, refl, ap, ◌∙◌, inl, inr, ⊎_elim, true≢false, arith}
 use Rattle.std.specs.Cmp.{nat_eq_equiv}
 use Rattle.std.specs.Cmp.Lexicographic.{pointwise, pointwise_decides, bytes_decides, lists_equiv, nat_list_eq_equiv}
 use Rattle.std.proofs.lemmas.List.{drop_more, drop_all}
@@ -104,5 +104,5 @@ told_same (l ∷ a) [] e = absurd (omega arith)
 told_same (l ∷ a) (m ∷ b) e = λ i. nat_list_eq_equiv.symm m l i && told_same a b (omega arith) i
 
 -- it tells which names are the same
-pub names_told : (a b : List (List ℕ)) (t : Bool) → t ≡ pointwise (pointwise nat_eq) a b → Decides t (a ≡ b)
-names_told a b t e = subst (λ s. Decides s (a ≡ b)) (sym e) (pointwise_decides bytes_decides a b)
+pub names_told : (a b : List (List ℕ)) → Decides (pointwise (pointwise nat_eq) a b) (a ≡ b)
+names_told = pointwise_decides bytes_decides

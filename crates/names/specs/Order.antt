@@ -39,6 +39,8 @@ pub record OrderLaws : Type 0 where
   pub transitive : (a b c : List (List ℕ)) → NotAfter a b → NotAfter b c → NotAfter a c
   pub antisymmetric : (a b : List (List ℕ)) → NotAfter a b → NotAfter b a → a ≡ b
   pub equal : (a b : List (List ℕ)) → (order a b ≡ Equal → a ≡ b) × (a ≡ b → order a b ≡ Equal)
+  -- what `==` answers tells which names are the same
+  pub told : (a b : List (List ℕ)) → (pointwise (pointwise nat_eq) a b ≡ true → a ≡ b) × (a ≡ b → pointwise (pointwise nat_eq) a b ≡ true)
   -- a name comes before those below it
   pub above_first : (q n : List (List ℕ)) → within q n ≡ true → NotAfter q n
   -- what lies between a name and one within it is within it too: the names within a name stand in one row

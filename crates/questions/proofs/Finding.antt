@@ -1,22 +1,14 @@
 -- The first element of a list that passes a test, and where it stands; what is left to look through gives the answer.
-use Rattle.std.proofs.Common.{◌≡◌, ℕ, nat_eq, suc, ◌+◌, ◌<◌, ◌≤◌, Bool, true, false, cond, List, [], ◌∷◌, map, length, get_or, drop, Some, None, Option, sym, refl, ap, ◌∙◌, subst, arith}
+use Rattle.std.proofs.Common.{◌≡◌, ℕ, suc, ◌+◌, ◌<◌, ◌≤◌, Bool, true, false, cond, List, [], ◌∷◌, map, length, get_or, drop, Some, None, Option, sym, refl, ap, ◌∙◌, subst, arith}
 use lib.ListN.{length-map}
 use Rattle.std.specs.List.{slice_get}
 use Rattle.std.specs.Option.{option_map}
 use Rattle.std.proofs.lemmas.List.{drop_more, drop_all, get_or-map}
 use Rattle.std.proofs.lemmas.Option.{slice_get-get_or, slice_get_past}
 use Rattle.std.proofs.lemmas.Bool.{cond-true, cond-false}
-use Rattle.std.proofs.lemmas.Bool.Decides.{same_from_decides}
-use Rattle.std.specs.Cmp.Lexicographic.{pointwise}
-use Rattle.names.proofs.Within.{names_told}
-use Rattle.meaning.specs.Says.{same}
-use Rattle.meaning.proofs.Rules.{same_so, so_same}
 use Rattle.protocol.specs.Lists.{first}
 use Rattle.protocol.proofs.Lists.{first_here, first_there}
 use Rattle.machine.specs.Store.{place_of}
-
-pub same_test : (a n : List (List ℕ)) (b : Bool) → b ≡ pointwise (pointwise nat_eq) a n → b ≡ same a n
-same_test a n b h = same_from_decides b (same a n) (names_told a n b h) (same_so a n, so_same a n)
 
 module _ {A : Type 0} (test : A → Bool) where
   place_here : (x : A) (xs : List A) → test x ≡ true → place_of test (x ∷ xs) ≡ Some 0

@@ -1,11 +1,9 @@
 -- Searches by place find what a look through all sets finds.
-use Rattle.std.proofs.Common.{◌≡◌, ℕ, nat_eq, ◌<◌, ◌≤◌, Bool, true, false, eqb, ltb, List, [], map, length, get_or, drop, Some, None, Decides, Option, Ordering, Less, Equal, Greater, sym, refl, ap, ◌∙◌, subst, ⊎_elim, true≢false, arith}
+use Rattle.std.proofs.Common.{◌≡◌, ℕ, ◌<◌, ◌≤◌, Bool, true, false, eqb, ltb, List, [], map, length, get_or, drop, Some, None, Option, Ordering, Less, Equal, Greater, sym, refl, ap, ◌∙◌, subst, ⊎_elim, true≢false, arith}
 use mathlib.Core.List.{Memᴰ}
 use lib.ListN.{length-map}
 use Rattle.std.specs.Cmp.{ranks}
-use Rattle.std.specs.Cmp.Lexicographic.{pointwise, pointwise_decides, bytes_decides}
 use Rattle.std.specs.Ordering.{is_lt, is_le, ordering_reverse, ordering_then, MatchOrdering, nat_cmp}
-use Rattle.std.proofs.lemmas.Bool.Decides.{same_from_decides}
 use Rattle.std.proofs.lemmas.Bool.{and_from, and_parts, cases_lt, cases_order, eq-eqb, eqb-true, lt-ltb, le-ltb}
 use Rattle.names.specs.Order.{order, within, NotAfter}
 use Rattle.names.proofs.Order.{order_flip, order_below, order_itself, order_laws}
@@ -156,16 +154,6 @@ kind_less x k = rank_less x k (nat_cmp x k) (ranks x k)
 -- the labels below the apex decide
 pub before_found : (apex n m : List (List ℕ)) (k d : ℕ) (s : Set) (r : Ordering) → within apex s.name ≡ true → within apex n ≡ true → d ≡ length apex → m ≡ s.name → r ≡ order (drop d m) (drop d n) → is_lt (ordering_then r (nat_cmp s.kind k)) ≡ is_before n k s
 before_found apex n m k d s r v w e f h = ap (λ x. is_lt (ordering_then x (nat_cmp s.kind k))) (h ∙ (λ i. order (drop (e i) (f i)) (drop (e i) n)) ∙ order_below apex s.name n v w)
-
-pub same_test : (a n : List (List ℕ)) (b : Bool) → Decides b (a ≡ n) → b ≡ same a n
-same_test a n b h = same_from_decides b (same a n) h (same_so a n, so_same a n)
-
--- `==` of names tells whether they are the same
-pub told : (a b : List (List ℕ)) → Decides (pointwise (pointwise nat_eq) a b) (a ≡ b)
-told = pointwise_decides bytes_decides
-
-pub told_same : (a n : List (List ℕ)) → pointwise (pointwise nat_eq) a n ≡ same a n
-told_same a n = same_test a n (pointwise (pointwise nat_eq) a n) (told a n)
 
 module _ {X : Type 0} (f : X → Set) (xs : List X) (n : List (List ℕ)) (k : ℕ) where
   -- the set at the place is the one, or none is

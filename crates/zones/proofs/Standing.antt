@@ -9,13 +9,14 @@ use Rattle.std.specs.Ordering.{is_le}
 use Rattle.std.proofs.lemmas.Bool.{cases_lt}
 use Rattle.std.proofs.lemmas.Bool.Decides.{same_from_decides}
 use Rattle.names.specs.Order.{order, NotAfter}
+use Rattle.names.proofs.Within.{names_told}
 use Rattle.names.proofs.Order.{order_laws, order_itself}
 use Rattle.meaning.specs.Model.{aliases, Set}
 use Rattle.meaning.specs.Says.{same, is_exactly, find}
 use Rattle.zones.specs.Sorted.{sorted, place}
 use Rattle.zones.specs.Valid.{clashes, any_at}
 use Rattle.zones.proofs.Places.{mem_at, index_of, in_order, at_place, place_left, read_at}
-use Rattle.zones.proofs.ByPlace.{not_less, not_before, up_to, told}
+use Rattle.zones.proofs.ByPlace.{not_less, not_before, up_to}
 use Rattle.meaning.proofs.Rules.{same_so, so_same}
 
 -- ---- a set at a name
@@ -63,7 +64,7 @@ module _ {X : Type 0} (f : X → Set) (xs : List X) (o : sorted (map f xs) ≡ t
       go b (none_stands h) = refl
 
   pub at_read : (i : ℕ) (x : X) (b : Bool) → i ≡ place n 0 (map f xs) → i < length xs → x ≡ get_or xs i x → b ≡ pointwise (pointwise nat_eq) n (f x).name → b ≡ any_at n (map f xs)
-  at_read i x b p l e h = h ∙ same_from_decides (pointwise (pointwise nat_eq) n (f x).name) (any_at n (map f xs)) (told n (f x).name) (so (any_at n (map f xs)) (looks_at n (map f xs)), os (any_at n (map f xs)) (looks_at n (map f xs)))
+  at_read i x b p l e h = h ∙ same_from_decides (pointwise (pointwise nat_eq) n (f x).name) (any_at n (map f xs)) (names_told n (f x).name) (so (any_at n (map f xs)) (looks_at n (map f xs)), os (any_at n (map f xs)) (looks_at n (map f xs)))
     where
       here : get_or (map f xs) (place n 0 (map f xs)) (f x) ≡ f x
       here = ap (λ j. get_or (map f xs) j (f x)) (sym p) ∙ read_at f xs i x l e

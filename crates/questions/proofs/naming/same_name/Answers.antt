@@ -1,6 +1,7 @@
+use Rattle.std.proofs.Common.{◌∙◌}
 use Rattle.names.specs.Names.{labels}
-use Rattle.questions.proofs.Finding.{same_test}
+use Rattle.meaning.proofs.Rules.{told_same}
 use Rattle.questions.proofs.naming.same_name.Goals as goal
 
 pub returns : goal.returns
-returns c = same_test (labels c.args.a.now) (labels c.args.b.now) c.eq.result c.eq.ensures
+returns c = c.eq.ensures ∙ told_same (labels c.args.a.now) (labels c.args.b.now)

@@ -1,7 +1,7 @@
 use Rattle.std.proofs.Common.{nat_eq, ◌&&◌, eqb, sym, ap, ◌∙◌}
 use Rattle.std.specs.Cmp.Lexicographic.{pointwise}
 use Rattle.names.specs.Names.{labels}
-use Rattle.zones.proofs.ByPlace.{told_same}
+use Rattle.meaning.proofs.Rules.{told_same}
 use Rattle.zones.proofs.search.is_exactly.Goals as goal
 
 pub returns-then-eq : goal.returns-then-eq

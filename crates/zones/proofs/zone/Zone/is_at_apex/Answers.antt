@@ -1,7 +1,7 @@
 use Rattle.std.proofs.Common.{nat_eq, ap, ◌∙◌}
 use Rattle.std.specs.Cmp.Lexicographic.{pointwise}
 use Rattle.names.specs.Names.{labels}
-use Rattle.zones.proofs.ByPlace.{told_same}
+use Rattle.meaning.proofs.Rules.{told_same}
 use Rattle.zones.proofs.zone.Zone.is_at_apex.Goals as goal
 
 pub returns : goal.returns

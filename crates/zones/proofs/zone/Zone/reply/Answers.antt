@@ -1,4 +1,4 @@
-use Rattle.std.proofs.Common.{true, false, map, vec_items, sym, ap, ◌∙◌}
+use Rattle.std.proofs.Common.{true, false, map, vec_items, sym, refl, ap, ◌∙◌}
 use Rattle.names.specs.Names.{labels}
 use Rattle.meaning.specs.Says.{any_under}
 use Rattle.records.specs.Sets.{set_of}
@@ -18,7 +18,9 @@ returns-else-is_under c =
     not_inside z (all_belong_lem z.apex z.sets c.args.self.now.limited) (labels c.args.name.now) (sym c.if-not-is_within.ensures) c.args.kind.number false (c.if-is_under.ensures ∙ ap (λ xs. any_under (labels c.args.name.now) (map set_of xs)) c.as_slice.ensures.value)
 
 pub returns-in-Some : goal.returns-in-Some
-returns-in-Some c = referred (zone_of c.args.self.now) (labels c.args.name.now) c.args.kind.number (set_of c.in-Some.set.now) c.in-Some.ensures
+returns-in-Some c =
+    let z = zone_of c.args.self.now in
+    referred z (labels c.args.name.now) c.args.kind.number c.args.kind.number z.sets refl refl (set_of c.in-Some.set.now) c.in-Some.ensures
 
 pub reply_among-requires : goal.reply_among-requires
 reply_among-requires c =
@@ -30,4 +32,4 @@ reply_among-requires c =
     }
 
 pub returns-in-None : goal.returns-in-None
-returns-in-None c = unreferred (zone_of c.args.self.now) (labels c.args.name.now) c.args.kind.number (speaker_of c.reply_among.result) c.number.result (map set_of c.as_slice-in-None.result.now) (ap (map set_of) c.as_slice-in-None.ensures.value) c.number.ensures c.in-None.ensures c.reply_among.ensures
+returns-in-None c = unreferred (zone_of c.args.self.now) (labels c.args.name.now) c.args.kind.number c.number.result (map set_of c.as_slice-in-None.result.now) (ap (map set_of) c.as_slice-in-None.ensures.value) c.number.ensures (speaker_of c.reply_among.result) c.in-None.ensures c.reply_among.ensures
