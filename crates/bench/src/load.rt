@@ -74,7 +74,7 @@ pub fn named(class: u8, number: u64) -> Result<Name, Fault> {
 }
 
 fn put(zone: &mut Zone, name: Name, kind: u8, content: Data) -> Result<(), Fault> {
-    zone.insert(RecordSet::new(name, Kind::new(kind)?, Ttl(3600), content)?)
+    zone.insert(RecordSet::new(name, Kind::try_from(kind)?, Ttl(3600), content)?)
 }
 
 fn addresses(heap: Global) -> Result<Vec<Address>, Fault> {
@@ -115,7 +115,7 @@ fn put_all(heap: Global, zone: &mut Zone, plan: &Plan) -> Result<(), Fault> {
 }
 
 pub fn zone(heap: Global, plan: &Plan) -> Result<Zone, Fault> {
-    let serial = Serial::new(1)?;
+    let serial = Serial::try_from(1)?;
     let mut zone = Zone::new(heap, apex()?, serial, Ttl(60), Ttl(600), Ttl(86400));
     put_all(heap, &mut zone, plan)?;
     Ok(zone)

@@ -7,7 +7,7 @@ pub mod hash;
 pub mod times;
 
 // The zone that was asked, and for what.
-#[derive(Clone, Copy)]
+#[derive(Clone, Copy, PartialEq, Eq)]
 pub struct Key {
     pub apex: Name,
     pub name: Name,

@@ -3,11 +3,11 @@ use names::Name;
 use records::{Data, Delegation, Ttl};
 
 // In seconds since the resolver began.
-#[derive(Clone, Copy)]
+#[derive(Clone, Copy, PartialEq, Eq, PartialOrd, Ord, Debug)]
 pub struct Moment(pub u64);
 
 // A query's number, drawn once.
-#[derive(Clone, Copy)]
+#[derive(Clone, Copy, PartialEq, Eq, PartialOrd, Ord, Debug)]
 pub struct QueryId(pub u64);
 
 // The zone that a delegation leads to, with its servers.

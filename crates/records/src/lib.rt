@@ -7,5 +7,4 @@ mod types;
 
 pub use data::{Data, Delegation};
 pub use set::RecordSet;
-pub use types::numbers::{ALIAS, DELEGATION};
 pub use types::{Address, Kind, Serial, Ttl};

@@ -47,7 +47,7 @@ fn play(
 
 fn ask(rt: &HostRuntime, zones: &[Zone], name: &Name, kind: u64) -> io::Result<()> {
     let number = u8::try_from(kind).unwrap_or(0);
-    match Kind::new(number) {
+    match Kind::try_from(number) {
         Ok(kind) => walk::walk(rt, zones, name, kind),
         Err(_) => Ok(()),
     }

@@ -6,13 +6,13 @@ use zones::Zone;
 
 fn zone(heap: Global, apex: &[u8]) -> Result<Zone, Fault> {
     let apex = Name::read_whole(apex)?;
-    let serial = Serial::new(1)?;
+    let serial = Serial::try_from(1)?;
     Ok(Zone::new(heap, apex, serial, Ttl(60), Ttl(600), Ttl(86400)))
 }
 
 fn put(zone: &mut Zone, name: &[u8], kind: u8, ttl: u32, content: Data) -> Result<(), Fault> {
     let name = Name::read_whole(name)?;
-    zone.insert(RecordSet::new(name, Kind::new(kind)?, Ttl(ttl), content)?)
+    zone.insert(RecordSet::new(name, Kind::try_from(kind)?, Ttl(ttl), content)?)
 }
 
 fn address(heap: Global, last: u8) -> Result<Vec<Address>, Fault> {

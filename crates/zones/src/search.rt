@@ -8,7 +8,7 @@ ghost use Rattle.zones.specs.Sorted.{is_before, sorted, place};
 ghost use Rattle.zones.specs.Valid.{any_at};
 
 use names::Name;
-use records::{DELEGATION, RecordSet};
+use records::{Kind, RecordSet};
 use std::cmp::Ordering;
 
 fn is_before(set: &RecordSet, name: &Name, kind: u8) -> bool
@@ -92,7 +92,7 @@ pub fn find_delegation<'a>(sets: &'a [RecordSet], apex: &Name, name: &Name) -> O
     ensures { option_map (λ s. set_of s.now) result ≡ highest (is_over (labels apex.now) (labels name.now)) (map set_of sets.now) }
 {
     for depth in apex.label_count()..name.label_count() {
-        if let Some(set) = find_exact(sets, &name.ancestor(depth + 1), DELEGATION) {
+        if let Some(set) = find_exact(sets, &name.ancestor(depth + 1), Kind::DELEGATION.number()) {
             return Some(set);
         }
     }

@@ -96,8 +96,8 @@ impl Data {
         ensures { result ≡ fits kind.number (content_of self.now) }
     {
         match self {
-            Data::Addresses(addresses) => kind.number() == 1 && are_few(addresses.as_slice()),
-            Data::Texts(pieces) => kind.number() == 2 && pieces_fit(pieces.as_slice()),
+            Data::Addresses(addresses) => kind == Kind::ADDRESS && are_few(addresses.as_slice()),
+            Data::Texts(pieces) => kind == Kind::TEXT && pieces_fit(pieces.as_slice()),
             Data::Others(pieces) => kind.is_plain() && pieces_fit(pieces.as_slice()),
             Data::Alias(_) => kind.is_alias(),
             Data::Delegation(to) => {

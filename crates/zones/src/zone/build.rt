@@ -14,7 +14,7 @@ use crate::cuts::{add_cut, find_cut};
 use crate::fronted::position;
 use crate::search::{find_exact, is_at};
 use names::{Fault, Name};
-use records::{ALIAS, RecordSet, Serial, Ttl};
+use records::{Kind, RecordSet, Serial, Ttl};
 use std::alloc::Global;
 
 impl Zone {
@@ -50,7 +50,7 @@ impl Zone {
         if set.kind().is_alias() {
             is_at(sets, set.name())
         } else {
-            find_exact(sets, set.name(), ALIAS).is_some()
+            find_exact(sets, set.name(), Kind::ALIAS.number()).is_some()
         }
     }
 

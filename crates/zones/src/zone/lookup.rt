@@ -17,7 +17,7 @@ use crate::fronted::{find_exact, reply_among};
 use crate::reply::Reply;
 use crate::search::{find_delegation, is_exactly, is_under};
 use names::{Fault, Name};
-use records::{DELEGATION, Kind, RecordSet, Serial, Ttl};
+use records::{Kind, RecordSet, Serial, Ttl};
 use std::alloc::Global;
 
 impl Zone {
@@ -32,7 +32,7 @@ impl Zone {
                 self.fronts.as_slice(),
                 &self.apex,
                 cut,
-                DELEGATION,
+                Kind::DELEGATION.number(),
             ),
             None => None,
         }
