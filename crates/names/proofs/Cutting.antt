@@ -1,12 +1,14 @@
 -- Names on the wire: the loop that cuts their labels, and the round trip.
-use Rattle.std.proofs.Common.{◌≡◌, ℕ, zero, suc, ◌-◌, ◌<◌, ◌≤◌, Bool, true, false, cond, ◌&&◌, leb, List, [], ◌∷◌, ◌++◌, length, get_or, take, drop, Some, None, Ok, Err, MatchBool, Option, Result, sym, refl, ap, ◌∙◌, subst, true≢false, append_assoc, append-nil, arith, length-append}
+use Rattle.std.proofs.Common.{◌≡◌, ℕ, zero, suc, ◌-◌, ◌<◌, ◌≤◌, Bool, true, false, cond, leb, List, [], ◌∷◌, ◌++◌, length, get_or, take, drop, Some, None, Ok, Err, MatchResult, Option, Result, sym, refl, ap, ◌∙◌, true≢false, append_assoc, append-nil, arith, length-append}
 use Rattle.std.specs.List.{between}
 use Rattle.std.proofs.lemmas.Slice.{first_rest}
 use Rattle.std.proofs.lemmas.List.{take_at, drop_at, take-append-drop, length-take-le}
 use Rattle.std.proofs.lemmas.Bool.{cond-true, cond-false, le-leb, leb-true}
 use Rattle.names.specs.declared.fault.Fault.{Fault}
 use Rattle.names.specs.declared.fault.Fault.TheVariants.{Malformed, BadName}
-use Rattle.names.specs.Labels.{proper}
+use Rattle.names.specs.Labels.{proper, written}
+use Rattle.names.specs.declared.name.Name.{Name}
+use Rattle.names.specs.Names.{labels, name_of, given}
 use Rattle.names.specs.Wire.{wire_labels, wire, cut_label, behind, cut_labels, judged, read_wire, WireLaws}
 use Rattle.names.proofs.Proper.{proper_front}
 
@@ -51,15 +53,16 @@ behind_more : (ls : List (List ℕ)) (l : List ℕ) (o : Option (List (List ℕ)
 behind_more ls l None = refl
 behind_more ls l (Some p) = ap (λ x. Some (x, p.1)) (sym (append_assoc ls (l ∷ []) p.0))
 
--- ---- the loop: of n labels in bs, k are still to be cut from rest; those before are the name's, or no name's
+-- ---- the loop: of n labels in bs, k are still to be cut from rest; of those before, the name was made, if they make one
 
-pub record Cutting (n : ℕ) (bs : List ℕ) (name : List (List ℕ)) (good : Bool) (k : ℕ) (rest : List ℕ) : Type 0 where
+pub record Cutting (n : ℕ) (bs : List ℕ) (made : Result (List (List ℕ)) Fault) (k : ℕ) (rest : List ℕ) : Type 0 where
   pub cut : List (List ℕ)
   pub whole : cut_labels n bs ≡ behind cut (cut_labels k rest)
-  pub named : MatchBool good (name ≡ cut) (proper cut ≡ false)
+  pub named : made ≡ name_of cut
 
-pub none_cut : (n : ℕ) (bs : List ℕ) → Cutting n bs [] true n bs
-none_cut n bs = record { cut = []; whole = sym (at_front (cut_labels n bs)); named = refl }
+pub none_cut : (n : ℕ) (bs : List ℕ) (made : Result (List (List ℕ)) Fault) → made ≡ Ok [] → Cutting n bs made n bs
+unfolding proper written
+none_cut n bs made h = record { cut = []; whole = sym (at_front (cut_labels n bs)); named = h }
   where
     at_front : (o : Option (List (List ℕ) × List ℕ)) → behind [] o ≡ o
     at_front None = refl
@@ -72,25 +75,33 @@ improper ls ms h = go (proper (ls ++ ms)) refl
     go true e = absurd (true≢false (sym (proper_front ls ms e) ∙ h))
     go false e = e
 
-pub one_cut : (n : ℕ) (bs : List ℕ) (name next : List (List ℕ)) (good r : Bool) (k : ℕ) (rest l after : List ℕ) → Cutting n bs name good k rest → 0 < k → cut_label rest ≡ Some (l, after) → r ≡ (good && proper (name ++ l ∷ [])) → next ≡ cond r (name ++ l ∷ []) name → Cutting n bs next r (k - 1) after
-one_cut n bs name next good r k rest l after c pos h e a =
+-- what comes of a name and one label more
+abbrev pub one_more : Result (List (List ℕ)) Fault → List ℕ → Result (List (List ℕ)) Fault
+one_more (Ok ls) l = name_of (ls ++ l ∷ [])
+one_more (Err f) l = Err f
+
+-- by what `and_then` says of it
+pub one_then : (n r : Result Name Fault) (l : List ℕ) → MatchResult n (λ x. given r ≡ name_of (labels x ++ l ∷ [])) (λ f. r ≡ Err f) → given r ≡ one_more (given n) l
+one_then (Ok x) r l h = h
+one_then (Err f) r l h = ap given h
+
+one_named : (ls : List (List ℕ)) (l : List ℕ) → one_more (name_of ls) l ≡ name_of (ls ++ l ∷ [])
+one_named ls l = go (proper ls) refl
+  where
+    go : (b : Bool) → proper ls ≡ b → one_more (name_of ls) l ≡ name_of (ls ++ l ∷ [])
+    go true e = ap (λ b. one_more (cond b (Ok ls) (Err BadName)) l) e
+    go false e = ap (λ b. one_more (cond b (Ok ls) (Err BadName)) l) e ∙ sym (cond-false (proper (ls ++ l ∷ [])) (Ok (ls ++ l ∷ [])) (Err BadName) (improper ls (l ∷ []) e))
+
+pub one_cut : (n : ℕ) (bs : List ℕ) (made next : Result (List (List ℕ)) Fault) (k : ℕ) (rest l after : List ℕ) → Cutting n bs made k rest → 0 < k → cut_label rest ≡ Some (l, after) → next ≡ one_more made l → Cutting n bs next (k - 1) after
+one_cut n bs made next k rest l after c pos h e =
     record {
       cut = c.cut ++ l ∷ [];
       whole = c.whole ∙ ap (λ j. behind c.cut (cut_labels j rest)) less ∙ ap (behind c.cut) (cut_one (k - 1) rest l after h) ∙ behind_more c.cut l (cut_labels (k - 1) after);
-      named = go good r c.named e a;
+      named = e ∙ ap (λ r. one_more r l) c.named ∙ one_named c.cut l;
     }
   where
     less : k ≡ suc (k - 1)
     less = omega arith
-
-    good_so : (s : Bool) → name ≡ c.cut → s ≡ proper (name ++ l ∷ []) → next ≡ cond s (name ++ l ∷ []) name → MatchBool s (next ≡ c.cut ++ l ∷ []) (proper (c.cut ++ l ∷ []) ≡ false)
-    good_so true m f b = b ∙ ap (λ x. x ++ l ∷ []) m
-    good_so false m f b = ap (λ x. proper (x ++ l ∷ [])) (sym m) ∙ sym f
-
-    go : (g s : Bool) → MatchBool g (name ≡ c.cut) (proper c.cut ≡ false) → s ≡ (g && proper (name ++ l ∷ [])) → next ≡ cond s (name ++ l ∷ []) name → MatchBool s (next ≡ c.cut ++ l ∷ []) (proper (c.cut ++ l ∷ []) ≡ false)
-    go true s m f b = good_so s m f b
-    go false true m f b = absurd (true≢false f)
-    go false false m f b = improper c.cut (l ∷ []) m
 
 -- ---- what the loop finds
 
@@ -98,26 +109,32 @@ read_first : (n : ℕ) (bs : List ℕ) (o : Option (List (List ℕ) × List ℕ)
 unfolding read_wire
 read_first n bs o h = ap judged h
 
-pub cut_short : (n : ℕ) (bs : List ℕ) (name : List (List ℕ)) (good : Bool) (k : ℕ) (rest : List ℕ) → Cutting n bs name good k rest → 0 < k → cut_label rest ≡ None → read_wire (n ∷ bs) ≡ Err Malformed
-cut_short n bs name good k rest c pos h =
+pub cut_short : (n : ℕ) (bs : List ℕ) (made : Result (List (List ℕ)) Fault) (k : ℕ) (rest : List ℕ) → Cutting n bs made k rest → 0 < k → cut_label rest ≡ None → read_wire (n ∷ bs) ≡ Err Malformed
+cut_short n bs made k rest c pos h =
     let e : k ≡ suc (k - 1) = omega arith in
     read_first n bs None (c.whole ∙ ap (behind c.cut) (ap (λ j. cut_labels j rest) e ∙ cut_none (k - 1) rest h))
 
-all_cut : (n : ℕ) (bs : List ℕ) (name : List (List ℕ)) (good : Bool) (k : ℕ) (rest : List ℕ) (c : Cutting n bs name good k rest) → k ≡ 0 → cut_labels n bs ≡ Some (c.cut, rest)
+-- the name, with what follows it
+abbrev with_rest : List ℕ → Result (List (List ℕ)) Fault → Result (List (List ℕ) × List ℕ) Fault
+with_rest rest (Ok ls) = Ok (ls, rest)
+with_rest rest (Err f) = Err f
+
+all_cut : (n : ℕ) (bs : List ℕ) (made : Result (List (List ℕ)) Fault) (k : ℕ) (rest : List ℕ) (c : Cutting n bs made k rest) → k ≡ 0 → read_wire (n ∷ bs) ≡ with_rest rest made
 unfolding cut_labels
-all_cut n bs name good k rest c z = c.whole ∙ ap (λ j. behind c.cut (cut_labels j rest)) z ∙ ap (λ x. Some (x, rest)) (append-nil c.cut)
+all_cut n bs made k rest c z =
+    read_first n bs (Some (c.cut, rest)) (c.whole ∙ ap (λ j. behind c.cut (cut_labels j rest)) z ∙ ap (λ x. Some (x, rest)) (append-nil c.cut))
+    ∙ told (proper c.cut)
+    ∙ ap (with_rest rest) (sym c.named)
+  where
+    told : (b : Bool) → cond b (Ok (c.cut, rest)) (Err BadName) ≡ with_rest rest (cond b (Ok c.cut) (Err BadName))
+    told true = refl
+    told false = refl
 
-pub cut_bad : (n : ℕ) (bs : List ℕ) (name : List (List ℕ)) (good : Bool) (k : ℕ) (rest : List ℕ) → Cutting n bs name good k rest → k ≡ 0 → good ≡ false → read_wire (n ∷ bs) ≡ Err BadName
-cut_bad n bs name good k rest c z g =
-    let bad : proper c.cut ≡ false = subst (λ b. MatchBool b (name ≡ c.cut) (proper c.cut ≡ false)) g c.named in
-    read_first n bs (Some (c.cut, rest)) (all_cut n bs name good k rest c z) ∙ cond-false (proper c.cut) (Ok (c.cut, rest)) (Err BadName) bad
+pub cut_bad : (n : ℕ) (bs : List ℕ) (made : Result (List (List ℕ)) Fault) (k : ℕ) (rest : List ℕ) (f : Fault) → Cutting n bs made k rest → k ≡ 0 → made ≡ Err f → read_wire (n ∷ bs) ≡ Err f
+cut_bad n bs made k rest f c z e = all_cut n bs made k rest c z ∙ ap (with_rest rest) e
 
-pub cut_good : (n : ℕ) (bs : List ℕ) (name : List (List ℕ)) (good : Bool) (k : ℕ) (rest : List ℕ) → Cutting n bs name good k rest → k ≡ 0 → good ≡ true → proper name ≡ true → read_wire (n ∷ bs) ≡ Ok (name, rest)
-cut_good n bs name good k rest c z g p =
-    let m : name ≡ c.cut = subst (λ b. MatchBool b (name ≡ c.cut) (proper c.cut ≡ false)) g c.named in
-    read_first n bs (Some (c.cut, rest)) (all_cut n bs name good k rest c z)
-    ∙ cond-true (proper c.cut) (Ok (c.cut, rest)) (Err BadName) (ap proper (sym m) ∙ p)
-    ∙ ap (λ x. Ok (x, rest)) (sym m)
+pub cut_good : (n : ℕ) (bs : List ℕ) (made : Result (List (List ℕ)) Fault) (k : ℕ) (rest : List ℕ) (ls : List (List ℕ)) → Cutting n bs made k rest → k ≡ 0 → made ≡ Ok ls → read_wire (n ∷ bs) ≡ Ok (ls, rest)
+cut_good n bs made k rest ls c z e = all_cut n bs made k rest c z ∙ ap (with_rest rest) e
 
 pub read_empty : (bs : List ℕ) → length bs ≡ 0 → read_wire bs ≡ Err Malformed
 unfolding read_wire

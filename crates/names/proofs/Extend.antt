@@ -1,5 +1,7 @@
 -- Labels added one at a time: what is refused early is refused at the end.
-use Rattle.std.proofs.Common.{◌≡◌, ℕ, Bool, true, false, cond, List, [], ◌∷◌, ◌++◌, Ok, Err, sym, refl, ap, ◌∙◌, append_assoc, append-nil, arith}
+use Rattle.std.proofs.Common.{◌≡◌, ℕ, ◌+◌, ◌<◌, Bor, Bool, true, false, cond, List, [], ◌∷◌, ◌++◌, map, length, get_or, take, drop, Ok, Err, sym, refl, ap, ◌∙◌, append_assoc, arith}
+use mathlib.Core.List.{map-append}
+use Rattle.std.proofs.lemmas.List.{drop_more, take-append-drop}
 use Rattle.names.specs.declared.fault.Fault.{Fault}
 use Rattle.names.specs.declared.fault.Fault.TheVariants.{BadName}
 use Rattle.names.specs.declared.name.Name.{Name}
@@ -23,17 +25,22 @@ refused_so ls f h p = let q = named ls p in let z : ◌≡◌ {A = ℕ} 0 1 = cc
 pub refused_front : (ls ms : List (List ℕ)) (f : Fault) → name_of ls ≡ Err f → name_of (ls ++ ms) ≡ Err f
 refused_front ls ms f h = unnamed (ls ++ ms) (λ p. refused_so ls f h (proper_front ls ms p)) ∙ sym (unnamed ls (refused_so ls f h)) ∙ h
 
--- one label from those to come to those that are there
-pub moved : (a b : List (List ℕ)) (l : List ℕ) (left rest all : List (List ℕ)) → name_of (a ++ l ∷ []) ≡ Ok b → left ≡ l ∷ rest → a ++ left ≡ all → b ++ rest ≡ all
-moved a b l left rest all h e i =
-    ap (λ x. x ++ rest) (named_so (a ++ l ∷ []) b h).1 ∙ append_assoc a (l ∷ []) rest ∙ ap (λ x. a ++ x) (sym e) ∙ i
+-- the labels that were read, and one more
+pub one_read : (self : List (List ℕ)) (read : List (Bor (List ℕ))) (l : Bor (List ℕ)) (before after : List (List ℕ)) → before ≡ self ++ map (λ x. x.now) read → name_of (before ++ l.now ∷ []) ≡ Ok after → after ≡ self ++ map (λ x. x.now) (read ++ l ∷ [])
+one_read self read l before after b h =
+    (named_so (before ++ l.now ∷ []) after h).1 ∙ ap (λ x. x ++ l.now ∷ []) b ∙ append_assoc self (map (λ x. x.now) read) (l.now ∷ []) ∙ ap (λ x. self ++ x) (sym (map-append (λ x. x.now) read (l ∷ [])))
 
-pub refused_now : (a : List (List ℕ)) (l : List ℕ) (left rest all : List (List ℕ)) (f : Fault) → name_of (a ++ l ∷ []) ≡ Err f → left ≡ l ∷ rest → a ++ left ≡ all → name_of all ≡ Err f
-refused_now a l left rest all f h e i =
-    ap name_of (sym i ∙ ap (λ x. a ++ x) e ∙ sym (append_assoc a (l ∷ []) rest)) ∙ refused_front (a ++ l ∷ []) rest f h
+-- a label that is refused refuses all
+pub refused_there : (self : List (List ℕ)) (read : List (Bor (List ℕ))) (l : Bor (List ℕ)) (before all : List (List ℕ)) (f : Fault) → before ≡ self ++ map (λ x. x.now) read → map (λ x. x.now) read ≡ take (length read) all → (length read < length all) × (l.now ≡ get_or all (length read) l.now) → name_of (before ++ l.now ∷ []) ≡ Err f → name_of (self ++ all) ≡ Err f
+refused_there self read l before all f b so at h =
+    let n = length read in
+    let parted : all ≡ map (λ x. x.now) read ++ (l.now ∷ drop (n + 1) all) =
+    sym (take-append-drop n all) ∙ (λ i. sym so i ++ drop n all) ∙ ap (λ x. map (λ y. y.now) read ++ x) (drop_more all n l.now at.0 ∙ ap (λ x. x ∷ drop (n + 1) all) (sym at.1)) in
+    ap name_of
+    (ap (λ x. self ++ x) parted ∙ sym (append_assoc self (map (λ x. x.now) read) (l.now ∷ drop (n + 1) all)) ∙ ap (λ x. x ++ (l.now ∷ drop (n + 1) all)) (sym b)
+    ∙ sym (append_assoc before (l.now ∷ []) (drop (n + 1) all)))
+    ∙ refused_front (before ++ l.now ∷ []) (drop (n + 1) all) f h
 
--- nothing is to come: the name has them all
-pub named_all : (n : Name) (left all : List (List ℕ)) → left ≡ [] → labels n ++ left ≡ all → name_of all ≡ Ok (labels n)
-named_all n left all e' h =
-    let e : all ≡ labels n = sym h ∙ ap (λ x. labels n ++ x) e' ∙ append-nil (labels n) in
-    ap name_of e ∙ named (labels n) (labels_proper n)
+-- the name has them all
+pub named_all : (n : Name) (all : List (List ℕ)) → labels n ≡ all → name_of all ≡ Ok (labels n)
+named_all n all h = ap name_of (sym h) ∙ named (labels n) (labels_proper n)

@@ -1,7 +1,8 @@
 -- Fronts that differ decide the order of names; and the step of the loop that packs one.
-use Rattle.std.proofs.Common.{◌≡◌, ℕ, zero, suc, ◌+◌, ◌-◌, ◌*◌, ◌^◌, ◌<◌, ◌≤◌, true, ◌&&◌, ltb, leb, ◌⊎◌, List, [], ◌∷◌, length, get_or, drop, Ordering, Less, Equal, Greater, sym, refl, ap, ◌∙◌, inl, inr, ⊎_elim, true≢false, pow-suc, add-one, arith}
-use native.Mathlib.Nat.{pow-le-pow_right}
+use Rattle.std.proofs.Common.{◌≡◌, min, ◌++◌, take, ℕ, zero, suc, ◌+◌, ◌-◌, ◌*◌, ◌<◌, ◌≤◌, true, ◌&&◌, ltb, leb, ◌⊎◌, List, [], ◌∷◌, length, get_or, drop, Ordering, Less, Equal, Greater, sym, refl, ap, ◌∙◌, inl, inr, ⊎_elim, true≢false, arith}
 use Rattle.std.specs.Cmp.{ranks}
+use Rattle.std.specs.Int.{from_be_bytes, w64}
+use Rattle.std.proofs.lemmas.Grind.{common_steps}
 use Rattle.std.specs.Ordering.{is_lt, ordering_reverse, ordering_then, MatchOrdering, nat_cmp}
 use Rattle.std.proofs.lemmas.List.{drop_more, drop_all, get_or_past}
 use Rattle.std.proofs.lemmas.Bool.{and_parts, cases_lt, lt-ltb, le-ltb}
@@ -30,27 +31,47 @@ packed_step n sum l i = ⊎_elim there past (cases_lt i (length l))
         let e : sum * 256 + get_or l i 0 ≡ sum * 256 = omega arith in
         (λ j. packed n (e j) (drop_all (i + 1) l (omega arith) j)) ∙ sym (ap (packed (suc n) sum) (drop_all i l h))
 
-pub front_step : (sum : ℕ) (l : List ℕ) (i : ℕ) → i < 8 → packed (8 - (i + 1)) (sum * 256 + get_or l i 0) (drop (i + 1) l) ≡ packed (8 - i) sum (drop i l)
-front_step sum l i h =
-    let e : suc (8 - (i + 1)) ≡ 8 - i = omega arith in
-    packed_step (8 - (i + 1)) sum l i ∙ ap (λ n. packed n sum (drop i l)) e
+-- a block of eight bytes with a label's first ones, and zeros behind them
+abbrev zeros : List ℕ
+zeros = 0 ∷ 0 ∷ 0 ∷ 0 ∷ 0 ∷ 0 ∷ 0 ∷ 0 ∷ []
 
-pub front_done : (sum : ℕ) (l : List ℕ) (i : ℕ) → 8 ≤ i → packed (8 - i) sum (drop i l) ≡ sum
+zero_there : (i : ℕ) → get_or zeros i 0 ≡ 0
+zero_there zero = refl
+zero_there (suc zero) = refl
+zero_there (suc (suc zero)) = refl
+zero_there (suc (suc (suc zero))) = refl
+zero_there (suc (suc (suc (suc zero)))) = refl
+zero_there (suc (suc (suc (suc (suc zero))))) = refl
+zero_there (suc (suc (suc (suc (suc (suc zero)))))) = refl
+zero_there (suc (suc (suc (suc (suc (suc (suc zero))))))) = refl
+zero_there (suc (suc (suc (suc (suc (suc (suc (suc i)))))))) = refl
+
+pub padded : (l front : List ℕ) (len i : ℕ) → len ≡ min (length l) 8 → front ≡ take len l → i < 8 → get_or (front ++ drop len zeros) i 0 ≡ get_or l i 0
+padded l front len i n f h = ⊎_elim inside past (cases_lt i len)
+  where
+    inside : i < len → get_or (front ++ drop len zeros) i 0 ≡ get_or l i 0
+    inside k = grind (arith, common_steps)
+
+    past : len ≤ i → get_or (front ++ drop len zeros) i 0 ≡ get_or l i 0
+    past k =
+        let z = zero_there (len + (i - length front)) in
+        let p = get_or_past l i 0 (omega arith) in
+        grind (arith, common_steps)
+
+-- the eight bytes as one number
+pub eight_packed : (l bs : List ℕ) → ((i : ℕ) → i < 8 → get_or bs i 0 ≡ get_or l i 0) → from_be_bytes w64 bs ≡ front l
 unfolding packed
-front_done sum l i h = let e : 8 - i ≡ 0 = omega arith in ap (λ n. packed n sum (drop i l)) e
-
--- no sum wraps
-pub room_step : (sum b i : ℕ) → sum < 256 ^ i → b < 256 → sum * 256 + b < 256 ^ (i + 1)
-room_step sum b i h k =
-    let p : 256 ^ (i + 1) ≡ 256 ^ i * 256 = ap (λ n. 256 ^ n) (add-one i) ∙ pow-suc 256 i in
-    omega arith
-
-pub room_left : (sum i : ℕ) → sum < 256 ^ i → i < 8 → sum < 72057594037927936
-room_left sum i h k =
-    let z : 0 < 256 = omega arith in
-    let l : i ≤ 7 = omega arith in
-    let p : 256 ^ i ≤ 256 ^ 7 = pow-le-pow_right z l in
-    omega arith
+eight_packed l bs h =
+    let h0 = h 0 (omega arith) in
+    let h1 = h 1 (omega arith) in
+    let h2 = h 2 (omega arith) in
+    let h3 = h 3 (omega arith) in
+    let h4 = h 4 (omega arith) in
+    let h5 = h 5 (omega arith) in
+    let h6 = h 6 (omega arith) in
+    let h7 = h 7 (omega arith) in
+    let steps = packed_step 0 _ l 7 ∙ packed_step 1 _ l 6 ∙ packed_step 2 _ l 5 ∙ packed_step 3 _ l 4 ∙ packed_step 4 _ l 3 ∙ packed_step 5 _ l 2 ∙ packed_step 6 _ l 1 ∙ packed_step 7 0 l 0 in
+    omega arith ∙ steps
 
 -- ---- the order of labels
 

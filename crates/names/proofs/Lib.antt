@@ -1,6 +1,9 @@
 mod Pieces
 pub mod Proper
 pub mod Laws
+pub mod Iterating
+mod Splitting
+pub mod SameItems
 mod Push
 mod Parent
 pub mod Within

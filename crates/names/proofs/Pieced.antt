@@ -1,8 +1,7 @@
 -- Texts cut at their dots: one cut at the last dot, and joining what was cut.
-use Rattle.std.proofs.Common.{◌≡◌, ℕ, ◌+◌, ◌<◌, ◌≤◌, Bool, true, false, cond, not, eqb, List, [], ◌∷◌, ◌++◌, reverse, length, get_or, take, drop, sym, refl, ap, ◌∙◌}
+use Rattle.std.proofs.Common.{◌≡◌, ℕ, Bool, true, false, cond, not, eqb, List, [], ◌∷◌, ◌++◌, reverse, refl, ap, ◌∙◌}
 use mathlib.Core.List.{reverse-append}
-use Rattle.std.proofs.lemmas.List.{drop_more, drop_all, take-append-drop}
-use Rattle.std.proofs.lemmas.Bool.{and_parts, and_from, not-true, not_from_false, cond-false, ne_eqb}
+use Rattle.std.proofs.lemmas.Bool.{and_parts, not-true, cond-false}
 use Rattle.names.specs.Reading.{first_piece, more_pieces, labels_in, dotless}
 
 -- ---- a piece has no dot
@@ -20,14 +19,6 @@ dotless_more [] h = refl
 dotless_more (b ∷ t) h =
     let p = and_parts (not (eqb b 46)) (dotless t) h in
     cond-false (eqb b 46) (first_piece t ∷ more_pieces t) (more_pieces t) (not-true (eqb b 46) p.0) ∙ dotless_more t p.1
-
--- from the last byte back: one byte more that is no dot
-pub dotless_back : (t : List ℕ) (i : ℕ) → i < length t → (get_or t i 0 ≡ 46 → ⊥) → dotless (drop (i + 1) t) ≡ true → dotless (drop i t) ≡ true
-dotless_back t i l n h =
-    ap dotless (drop_more t i 0 l) ∙ and_from (not (eqb (get_or t i 0) 46)) (dotless (drop (i + 1) t)) (not_from_false (eqb (get_or t i 0) 46) (ne_eqb (get_or t i 0) 46 n)) h
-
-pub dotless_end : (t : List ℕ) (i : ℕ) → length t ≤ i → dotless (drop i t) ≡ true
-dotless_end t i h = ap dotless (drop_all i t h)
 
 -- ---- a cut at the last dot
 
@@ -54,8 +45,3 @@ labels_cut xs ys h =
 pub labels_one : (t : List ℕ) → dotless t ≡ true → labels_in t ≡ t ∷ []
 unfolding labels_in
 labels_one t h = ap reverse (λ i. dotless_first t h i ∷ dotless_more t h i)
-
--- the same at the place of the last dot
-pub labels_cut_at : (t : List ℕ) (i : ℕ) → i < length t → get_or t i 0 ≡ 46 → dotless (drop (i + 1) t) ≡ true → labels_in t ≡ drop (i + 1) t ∷ labels_in (take i t)
-labels_cut_at t i l e h =
-    ap labels_in (sym (take-append-drop i t) ∙ ap (λ r. take i t ++ r) (drop_more t i 0 l ∙ ap (λ b. b ∷ drop (i + 1) t) e)) ∙ labels_cut (take i t) (drop (i + 1) t) h

@@ -4,7 +4,8 @@ use mathlib.Core.List.{reverse-cons}
 use Rattle.std.proofs.lemmas.List.Edits.{length-between}
 use Rattle.std.proofs.lemmas.Bool.{and_parts, and_from, leb-true, le-leb, ltb-true}
 use Rattle.std.proofs.lemmas.Bool.Decides.{nat_tests}
-use Rattle.names.specs.Labels.{proper_label, proper_labels, dotted, written, proper}
+use Rattle.std.specs.List.{list_all}
+use Rattle.names.specs.Labels.{label_byte, label_bytes, proper_label, proper_labels, dotted, written, proper}
 use Rattle.names.specs.Layout.{pieces, rising}
 use Rattle.names.specs.Wire.{wire_labels, wire}
 use Rattle.names.proofs.Pieces.{rising_room}
@@ -132,3 +133,7 @@ weight_pieces s (e ∷ es) bs h =
     let n = length-between bs s e b in
     let r = weight_pieces e es bs p.1 in
     omega arith
+
+pub all_bytes : (bs : List ℕ) → label_bytes bs ≡ list_all label_byte bs
+all_bytes [] = refl
+all_bytes (b ∷ bs) = ap (λ x. label_byte b && x) (all_bytes bs)

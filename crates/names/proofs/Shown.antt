@@ -1,9 +1,9 @@
 -- A name as it is written label by label, and that its bytes are ASCII.
-use Rattle.std.proofs.Common.{◌≡◌, ℕ, zero, suc, ◌+◌, ◌-◌, ◌<◌, true, ◌&&◌, leb, List, [], ◌∷◌, ◌++◌, reverse, length, get_or, take, IsAscii, sym, refl, ap, ◌∙◌, arith}
+use Rattle.std.proofs.Common.{◌≡◌, ℕ, zero, suc, ◌<◌, true, ◌&&◌, leb, List, [], ◌∷◌, ◌++◌, reverse, length, get_or, IsAscii, sym, refl, ap, ◌∙◌, arith}
 use mathlib.Core.List.{reverse-append}
 use Rattle.std.proofs.lemmas.Str.Ascii.{IsAscii-nil, IsAscii-cons}
-use Rattle.std.proofs.lemmas.List.{take_more, take_all, append-nil}
-use Rattle.std.proofs.lemmas.Bool.{and_parts}
+use Rattle.std.proofs.lemmas.List.{append-nil}
+use Rattle.std.proofs.lemmas.Bool.{and_parts, and_from}
 use Rattle.std.proofs.lemmas.Bool.Decides.{nat_tests}
 use Rattle.names.specs.Labels.{label_byte, label_bytes, proper_label, proper_labels, dotted, written}
 
@@ -39,24 +39,18 @@ dotted_trail l [] = sym (append-nil l)
 dotted_trail l (m ∷ ms) = ap (λ t. l ++ 46 ∷ t) (dotted_trail m ms)
 
 -- the lowest label, then the others
-pub written_lowest : (ls : List (List ℕ)) → 0 < length ls → written ls ≡ get_or ls (length ls - 1) [] ++ trail (reverse (take (length ls - 1) ls))
+pub written_lowest : (upper : List (List ℕ)) (l : List ℕ) → written (upper ++ l ∷ []) ≡ l ++ trail (reverse upper)
 unfolding written
-written_lowest [] h = absurd (omega arith)
-written_lowest (l ∷ ls) h = ap dotted (turned (l ∷ ls) (length ls) refl) ∙ dotted_trail (get_or (l ∷ ls) (length ls) []) (reverse (take (length ls) (l ∷ ls))) ∙ by_count
-  where
-    turned : (ms : List (List ℕ)) (n : ℕ) → length ms ≡ suc n → reverse ms ≡ get_or ms n [] ∷ reverse (take n ms)
-    turned ms n e =
-        ap reverse (sym (take_all (n + 1) ms (omega arith)) ∙ take_more ms n [] (omega arith)) ∙ reverse-append (take n ms) (get_or ms n [] ∷ [])
+written_lowest [] l = ap dotted (reverse-append [] (l ∷ [])) ∙ dotted_trail l []
+written_lowest (m ∷ upper) l = ap dotted (reverse-append (m ∷ upper) (l ∷ [])) ∙ dotted_trail l (reverse (m ∷ upper))
 
-    less_one : length ls ≡ length (l ∷ ls) - 1
-    less_one = omega arith
-
-    by_count : get_or (l ∷ ls) (length ls) [] ++ trail (reverse (take (length ls) (l ∷ ls))) ≡ get_or (l ∷ ls) (length (l ∷ ls) - 1) [] ++ trail (reverse (take (length (l ∷ ls) - 1) (l ∷ ls)))
-    by_count = ap (λ n. get_or (l ∷ ls) n [] ++ trail (reverse (take n (l ∷ ls)))) less_one
-
--- the next label up
-pub trail_more : (ls : List (List ℕ)) (i : ℕ) → i < length ls → trail (reverse (take (i + 1) ls)) ≡ 46 ∷ (get_or ls i [] ++ trail (reverse (take i ls)))
-trail_more ls i h = ap (λ ms. trail (reverse ms)) (take_more ls i [] h) ∙ ap trail (reverse-append (take i ls) (get_or ls i [] ∷ []))
+-- of proper labels the last, and those before it
+pub last_proper : (upper : List (List ℕ)) (l : List ℕ) → proper_labels (upper ++ l ∷ []) ≡ true → (proper_labels upper ≡ true) × (proper_label l ≡ true)
+last_proper [] l h = (refl, (and_parts (proper_label l) true h).0)
+last_proper (m ∷ upper) l h =
+    let p = and_parts (proper_label m) (proper_labels (upper ++ l ∷ [])) h in
+    let q = last_proper upper l p.1 in
+    (and_from (proper_label m) (proper_labels upper) p.0 q.0, q.1)
 
 pub written_root : (ls : List (List ℕ)) → length ls ≡ 0 → written ls ≡ 46 ∷ []
 unfolding written

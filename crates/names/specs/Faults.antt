@@ -1,5 +1,6 @@
 -- The number of each fault, as packets, scripts and output give it.
-use Rattle.std.specs.Prelude.{◌≡◌, ℕ, ◌≤◌, Some, None, Option}
+use Rattle.std.specs.Prelude.{◌≡◌, ℕ, ◌≤◌, List, ◌++◌, codes, Some, None, Option}
+use Rattle.std.specs.Fmt.{decimal}
 use Rattle.names.specs.declared.fault.Fault.{Fault}
 use Rattle.names.specs.declared.fault.Fault.TheVariants.{Malformed, BadName, BadData, Misplaced, Conflict, StaleSerial, TooMuch, NotPending, WrongApex, BadTransfer, CacheFull, NoMemory}
 
@@ -17,6 +18,14 @@ number_of WrongApex = Some 9
 number_of BadTransfer = Some 10
 number_of CacheFull = Some 11
 number_of NoMemory = None
+
+-- as it is printed
+abbrev pub numbered : Option ℕ → List ℕ
+numbered (Some n) = codes "fault " ++ decimal n
+numbered None = codes "out of memory"
+
+abbrev pub fault_text : Fault → List ℕ
+fault_text f = numbered (number_of f)
 
 pub record FaultLaws : Type 0 where
   -- a number names one fault

@@ -8,3 +8,4 @@ pub mod Fronts
 pub mod Reading
 pub mod Wire
 pub mod Readers
+pub mod Iterating

@@ -1,5 +1,5 @@
 -- What a written name means. Assumes nothing.
-use Rattle.std.specs.Prelude.{◌≡◌, ℕ, ◌-◌, ◌<◌, Bool, true, cond, not, ◌&&◌, ◌⊎◌, List, [], ◌∷◌, ◌++◌, reverse, length, take, Some, None, Ok, Option, Result, ◌==◌, slice_index}
+use Rattle.std.specs.Prelude.{◌≡◌, ℕ, ◌-◌, ◌<◌, Bool, true, cond, not, ◌&&◌, ◌⊎◌, List, [], ◌∷◌, ◌++◌, reverse, length, take, Ok, Result, ◌==◌, slice_index}
 use Rattle.names.specs.declared.fault.Fault.{Fault}
 use Rattle.names.specs.Labels.{written, proper}
 use Rattle.names.specs.Names.{name_of}
@@ -16,11 +16,6 @@ more_pieces (b ∷ bs) = cond (b == 46) (first_piece bs ∷ more_pieces bs) (mor
 -- the labels that a text holds, from the root down: the last piece is the highest label
 unfoldable pub labels_in : List ℕ → List (List ℕ)
 labels_in t = reverse (first_piece t ∷ more_pieces t)
-
--- what is left of a text, or nothing: the labels that are still to come
-abbrev pub labels_left : Option (List ℕ) → List (List ℕ)
-labels_left None = []
-labels_left (Some t) = labels_in t
 
 abbrev pub dotless : List ℕ → Bool
 dotless [] = true

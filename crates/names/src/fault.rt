@@ -1,9 +1,10 @@
 // Why an input is refused: one list for every layer of the service.
-ghost use Rattle.std.specs.Prelude.{◌≡◌};
+ghost use Rattle.std.specs.Prelude.{◌≡◌, Some};
 ghost use Rattle.names.specs.declared.fault.Fault.TheVariants.{NoMemory};
-ghost use Rattle.names.specs.Faults.{number_of, FaultLaws};
+ghost use Rattle.names.specs.Faults.{number_of, fault_text, FaultLaws};
 
 use std::alloc::{AllocError, AllocFailed};
+use std::fmt;
 
 #[derive(Clone, Copy, PartialEq, Eq, Debug)]
 pub enum Fault {
@@ -51,6 +52,17 @@ impl Fault {
             Fault::BadTransfer => Some(10),
             Fault::CacheFull => Some(11),
             Fault::NoMemory => None,
+        }
+    }
+}
+
+impl fmt::Display for Fault {
+    ghost output = { λ f. Some (fault_text f) };
+
+    fn fmt<W: fmt::Write>(&self, f: &mut fmt::Formatter<W>) -> fmt::Result {
+        match self.number() {
+            Some(number) => write!(f, "fault {number}"),
+            None => f.write_str("out of memory"),
         }
     }
 }

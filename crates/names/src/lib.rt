@@ -5,6 +5,7 @@ mod fault;
 mod name;
 
 pub use fault::{Fault, fault_laws};
+pub use name::iter::Labels;
 pub use name::order::{order_laws, within_laws};
 pub use name::text::written_laws;
 pub use name::wire::{Reader, wire_laws};

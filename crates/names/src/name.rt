@@ -4,6 +4,7 @@ ghost use Rattle.names.specs.Labels.{proper};
 ghost use Rattle.names.specs.Layout.{pieces, rising};
 
 pub mod display;
+pub mod iter;
 pub mod labels;
 pub mod order;
 pub mod text;

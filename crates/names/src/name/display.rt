@@ -1,6 +1,6 @@
 // Writing a name: from the lowest label up, with dots between.
-ghost use Rattle.std.specs.Prelude.{◌≡◌, ◌<◌, ◌≤◌, [], length, Some, slice_index_or};
-ghost use Rattle.names.specs.Labels.{written};
+ghost use Rattle.std.specs.Prelude.{◌≡◌, ◌≤◌, true, length, Some};
+ghost use Rattle.names.specs.Labels.{proper_label, written};
 ghost use Rattle.names.specs.Names.{labels};
 
 use super::Name;
@@ -18,28 +18,28 @@ impl Name {
         }
         self.start(count) + (count - 1)
     }
+}
 
-    fn label_text(&self, depth: usize) -> &str
-        requires { depth < length (labels self.now) }
-        ensures { result.now ≡ slice_index_or (labels self.now) depth [] }
-    {
-        // Safe, and proved so: every byte of a label is ASCII.
-        unsafe { std::str::from_utf8_unchecked(self.label_at(depth)) }
-    }
+// A label as text. Safe, and proved so: every byte of a label is ASCII.
+fn text_of(label: &[u8]) -> &str
+    requires { proper_label label.now ≡ true }
+    ensures { result.now ≡ label.now }
+{
+    unsafe { std::str::from_utf8_unchecked(label) }
 }
 
 impl fmt::Display for Name {
     ghost output = { λ n. Some (written (labels n)) };
 
     fn fmt<W: fmt::Write>(&self, f: &mut fmt::Formatter<W>) -> fmt::Result {
-        let count = self.label_count();
-        if count == 0 {
+        let mut labels = self.labels().rev();
+        let Some(lowest) = labels.next() else {
             return f.write_str(".");
-        }
-        f.write_str(self.label_text(count - 1))?;
-        for depth in (0..count - 1).rev() {
+        };
+        f.write_str(text_of(lowest))?;
+        for label in labels {
             f.write_str(".")?;
-            f.write_str(self.label_text(depth))?;
+            f.write_str(text_of(label))?;
         }
         Ok(())
     }

@@ -18,12 +18,7 @@ fn is_label_byte(b: u8) -> bool
 fn are_label_bytes(bytes: &[u8]) -> bool
     ensures { result ≡ label_bytes bytes.now }
 {
-    for b in bytes {
-        if !is_label_byte(*b) {
-            return false;
-        }
-    }
-    true
+    bytes.iter().all(|b| is_label_byte(*b))
 }
 
 fn is_label(label: &[u8]) -> bool
@@ -126,9 +121,7 @@ impl Name {
     pub fn parent(&self) -> Option<Name>
         ensures { option_map labels result ≡ parent_of (labels self.now) }
     {
-        if self.label_count() == 0 {
-            return None;
-        }
-        Some(self.ancestor(self.label_count() - 1))
+        let above = self.label_count().checked_sub(1)?;
+        Some(self.ancestor(above))
     }
 }

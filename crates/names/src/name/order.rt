@@ -1,8 +1,8 @@
 // Names compared label by label, from the root down: within, equal, before.
-ghost use Rattle.std.specs.Prelude.{◌≡◌, drop, nat_eq, Some, slice_index, refl};
+ghost use Rattle.std.specs.Prelude.{◌≡◌, drop, nat_eq, Some, refl};
 ghost use Rattle.names.specs.Fronts.{front, front_below};
 ghost use Rattle.names.specs.Names.{labels};
-ghost use Rattle.names.specs.Order.{same_label, label_order, within, order, WithinLaws, OrderLaws};
+ghost use Rattle.names.specs.Order.{within, order, WithinLaws, OrderLaws};
 ghost use Rattle.names.specs.Comparing.{names_total, names_ties, names_partial};
 ghost use Rattle.std.specs.Cmp.{partial_equiv_from_equiv, on_equiv, on_po, on_total};
 ghost use Rattle.std.specs.Cmp.Lexicographic.{pointwise, lists_equiv, nat_list_eq_equiv};
@@ -11,34 +11,14 @@ ghost use Rattle.std.specs.Ordering.{on};
 use super::Name;
 use std::cmp::Ordering;
 
-fn same_label(a: &[u8], b: &[u8]) -> bool
-    ensures { result ≡ same_label a.now b.now }
-{
-    a == b
-}
-
-fn compare_labels(a: &[u8], b: &[u8]) -> Ordering
-    ensures { result ≡ label_order a.now b.now }
-{
-    a.cmp(&b)
-}
-
-// The byte at an index, or 0 past the end.
-fn byte_at(label: &[u8], at: usize) -> u8
-    ensures { result ≡ slice_index label.now at }
-{
-    if at < label.len() { label[at] } else { 0 }
-}
-
 // The first eight bytes of a label as one number.
 fn front_of(label: &[u8]) -> u64
     ensures { result ≡ front label.now }
 {
-    let mut number: u64 = 0;
-    for at in 0..8 {
-        number = number * 256 + byte_at(label, at) as u64;
-    }
-    number
+    let mut bytes = [0; 8];
+    let len = label.len().min(bytes.len());
+    bytes[..len].copy_from_slice(&label[..len]);
+    u64::from_be_bytes(bytes)
 }
 
 impl Name {
@@ -46,31 +26,15 @@ impl Name {
     pub fn is_within(&self, upper: &Name) -> bool
         ensures { result ≡ within (labels upper.now) (labels self.now) }
     {
-        if self.label_count() < upper.label_count() {
-            return false;
-        }
-        for depth in 0..upper.label_count() {
-            if !same_label(self.label_at(depth), upper.label_at(depth)) {
-                return false;
-            }
-        }
-        true
+        let front = self.labels().take(upper.label_count());
+        upper.labels().eq(front)
     }
 
     // The order of two names by their labels from a depth on: all that is left to compare where those above are the same.
     pub fn compare_below(&self, other: &Name, depth: usize) -> Ordering
         ensures { result ≡ order (drop depth (labels self.now)) (drop depth (labels other.now)) }
     {
-        let shared = self.label_count().min(other.label_count());
-        for at in depth..shared {
-            let found = compare_labels(self.label_at(at), other.label_at(at));
-            if found.is_ne() {
-                return found;
-            }
-        }
-        self.label_count()
-            .max(depth)
-            .cmp(&other.label_count().max(depth))
+        self.labels_below(depth).cmp(other.labels_below(depth))
     }
 
     // The first bytes of the label at a depth as one number: where two names share the labels above it and these numbers
@@ -92,7 +56,7 @@ impl PartialEq for Name {
     ghost laws = { partial_equiv_from_equiv (on_equiv labels (lists_equiv nat_list_eq_equiv)) };
 
     fn eq(&self, other: &Name) -> bool {
-        self.label_count() == other.label_count() && self.is_within(other)
+        self.labels().eq(other.labels())
     }
 }
 

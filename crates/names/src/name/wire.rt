@@ -25,14 +25,6 @@ fn cut_label(bytes: &[u8]) -> Option<(&[u8], &[u8])>
     Some(rest.split_at(len))
 }
 
-// One label more where all before it were good; whether all are good still.
-fn push_if(good: bool, name: &mut Name, label: &[u8]) -> bool
-    ensures value { result ≡ (good && proper (labels name.old ++ label.now ∷ [])) }
-    ensures after { labels name.new ≡ (if result then labels name.old ++ label.now ∷ [] else labels name.old) }
-{
-    good && name.push(label).is_ok()
-}
-
 // Reads from the front of a packet; what is refused stays there to be read.
 #[derive(Drop)]
 pub struct Reader<'a> {
@@ -61,18 +53,16 @@ impl<'a> Reader<'a> {
             return Err(Fault::Malformed);
         };
         let mut rest = bytes;
-        let mut name = Name::root();
-        let mut good = true;
+        // What is cut short is told before what is no name, so a bad label is no end yet.
+        let mut name = Ok(Name::root());
         for _ in 0..*count {
             let Some((label, after)) = cut_label(rest) else {
                 return Err(Fault::Malformed);
             };
-            good = push_if(good, &mut name, label);
+            name = name.and_then(|upper| upper.child(label));
             rest = after;
         }
-        if !good {
-            return Err(Fault::BadName);
-        }
+        let name = name?;
         self.rest = rest;
         Ok(name)
     }
@@ -101,8 +91,8 @@ impl Name {
         ensures { Appends out.old.items (wire (labels self.now)) result out.new.items }
     {
         out.push(self.count)?;
-        for depth in 0..self.label_count() {
-            append_label(self.label_at(depth), out)?;
+        for label in self.labels() {
+            append_label(label, out)?;
         }
         Ok(())
     }

@@ -1,33 +1,35 @@
-use Rattle.std.proofs.Common.{[], ◌∷◌, ◌++◌, take, vec_items, sym, arith}
+use Rattle.std.proofs.Common.{vec_items, sym, ap, ◌∙◌}
 use Rattle.std.proofs.lemmas.Result.{err_from_is_err_and}
+use Rattle.names.specs.Iterating.{labels_left}
+use Rattle.names.specs.Labels.{proper_labels}
 use Rattle.names.specs.Names.{labels}
-use Rattle.names.specs.Wire.{wire, wire_labels}
-use Rattle.names.proofs.Appending.{wire_none, wire_more, wire_all, label_below, in_all, refused_part}
+use Rattle.names.specs.Wire.{wire}
+use Rattle.names.proofs.Appending.{none_written, one_written, all_written, part_written, first_short}
 use Rattle.names.proofs.Laws.{count_is, labels_proper}
 use Rattle.names.proofs.Proper.{limits}
 use Rattle.names.proofs.name.Name.append_wire.Goals as goal
 
-pub loop-depth-init : goal.loop-depth-init
-loop-depth-init c = wire_none (vec_items c.push.new.self) (labels c.args.self.now)
+pub loop-label-init : goal.loop-label-init
+loop-label-init c =
+    let n = c.args.self.now in
+    let all = ap labels_left c.into_iter-label-iterator.ensures.into_iter_gives ∙ c.labels-label-items.ensures in
+    (ap proper_labels all ∙ (limits (labels n) (labels_proper n)).labels, none_written (vec_items c.push.new.self) (labels n) _ all)
 
 pub append_label-requires : goal.append_label-requires
-append_label-requires c =
-    let ls = labels c.args.self.now in
-    label_below ls c.loop-depth.depth c.label_at.result.now (limits ls (labels_proper c.args.self.now)).labels (omega arith) c.label_at.ensures
+append_label-requires c = (first_short _ _ c.in-Some.label.now c.loop-label.invariant.0 c.in-Some.ensures.steps).0
+
+pub loop-label-preserved : goal.loop-label-preserved
+loop-label-preserved c = (
+  (first_short _ _ c.in-Some.label.now c.loop-label.invariant.0 c.in-Some.ensures.steps).1,
+  one_written _ _ _ _ _ _ c.in-Some.label.now c.loop-label.invariant.1 c.in-Some.ensures.steps c.in_ok-append_label.ensures,
+)
 
 pub returns-in_err-append_label : goal.returns-in_err-append_label
 returns-in_err-append_label c =
     let y = err_from_is_err_and c.from_residual-in_err-append_label.result c.from_residual-in_err-append_label.ensures.1 in
     let p = c.in_err-append_label.ensures in
-    let before = vec_items c.args.out.now in
-    let mid = wire_labels (take c.loop-depth.depth (labels c.args.self.now)) in
-    refused_part before (wire (labels c.args.self.now)) (vec_items c.append_label.new.out) ((c.args.self.now.count ∷ []) ++ (mid ++ p.0)) c.from_residual-in_err-append_label.result y.0 y.1
-    (in_all before (c.args.self.now.count ∷ []) (vec_items c.push.new.self) mid (vec_items c.loop-depth.out) p.0 (vec_items c.append_label.new.out) c.in_ok-push.ensures.items c.loop-depth.invariant p.1)
-
-pub loop-depth-preserved : goal.loop-depth-preserved
-loop-depth-preserved c =
-    wire_more (vec_items c.push.new.self) (vec_items c.loop-depth.out) (vec_items c.append_label.new.out) (labels c.args.self.now) c.loop-depth.depth c.label_at.result.now (omega arith) c.label_at.ensures c.loop-depth.invariant c.in_ok-append_label.ensures
+    part_written (vec_items c.args.out.now) _ _ p.0 (vec_items c.append_label.new.out) (wire (labels c.args.self.now)) _ _ c.args.self.now.count c.from_residual-in_err-append_label.result y.0 c.in_ok-push.ensures.items c.loop-label.invariant.1 p.1 y.1
 
 pub returns : goal.returns
 returns c =
-    wire_all (vec_items c.args.out.now) (vec_items c.push.new.self) (vec_items c.loop-depth.out) (labels c.args.self.now) c.args.self.now.count c.loop-depth.depth (sym (count_is c.args.self.now)) (omega arith) c.in_ok-push.ensures.items c.loop-depth.invariant
+    all_written (vec_items c.args.out.now) _ _ (labels c.args.self.now) _ c.args.self.now.count (sym (count_is c.args.self.now)) c.in_ok-push.ensures.items c.loop-label.invariant.1 c.in-None.ensures.steps.0

@@ -1,18 +1,18 @@
-use Rattle.std.proofs.Common.{sym, ◌∙◌, arith}
+use Rattle.std.proofs.Common.{◌≡◌, take, sym, ap, ◌∙◌, refl}
+use Rattle.std.specs.Cmp.Lexicographic.{pointwise}
+use Rattle.std.proofs.lemmas.Iterator.{YieldsList-from_take}
+use Rattle.std.proofs.lemmas.Iterator.Consumers.{YieldsList-from_first, YieldsList-at}
+use Rattle.names.specs.Iterating.{labels_left}
 use Rattle.names.specs.Names.{labels}
-use Rattle.names.proofs.Within.{within_longer, within_step, within_all}
+use Rattle.names.specs.Order.{same_label}
+use Rattle.names.proofs.SameItems.{eq_from_yields_list}
+use Rattle.names.proofs.Within.{within_taken}
 use Rattle.names.proofs.name.Name.is_within.Goals as goal
 
-pub returns-then-label_count : goal.returns-then-label_count
-returns-then-label_count c = sym (within_longer (labels c.args.upper.now) (labels c.args.self.now) (omega arith))
-
-pub returns-then-not-same_label : goal.returns-then-not-same_label
-returns-then-not-same_label c =
-    sym (within_step (labels c.args.upper.now) (labels c.args.self.now) c.loop-depth.depth c.label_at.result.now c.label_at-in-loop-depth.result.now _ (omega arith) (omega arith) c.label_at.ensures c.label_at-in-loop-depth.ensures c.if-not-same_label.ensures) ∙ c.loop-depth.invariant
-
-pub loop-depth-preserved : goal.loop-depth-preserved
-loop-depth-preserved c =
-    sym (within_step (labels c.args.upper.now) (labels c.args.self.now) c.loop-depth.depth c.label_at.result.now c.label_at-in-loop-depth.result.now _ (omega arith) (omega arith) c.label_at.ensures c.label_at-in-loop-depth.ensures c.if-not-same_label.ensures) ∙ c.loop-depth.invariant
-
 pub returns : goal.returns
-returns c = sym (within_all (labels c.args.upper.now) (labels c.args.self.now) c.loop-depth.depth (omega arith)) ∙ c.loop-depth.invariant
+returns c =
+    eq_from_yields_list (λ x y. y ≡ x) _ same_label _ c.eq.ensures.ran
+    (YieldsList-from_first (λ l. l.now) labels_left _ c.labels-2.ensures)
+    (λ it e. YieldsList-at e (YieldsList-from_take c.label_count.result (YieldsList-at c.take-front.ensures.source (YieldsList-from_first (λ l. l.now) labels_left _ c.labels.ensures)) c.take-front.ensures.count)) (λ x y. refl)
+    ∙ ap (λ n. pointwise same_label (labels c.args.upper.now) (take n (labels c.args.self.now))) c.label_count.ensures
+    ∙ sym (within_taken (labels c.args.upper.now) (labels c.args.self.now))

@@ -1,21 +1,11 @@
-use Rattle.std.proofs.Common.{◌+◌, ◌&&◌, drop, sym, ap, ◌∙◌}
-use Rattle.std.proofs.lemmas.List.{at_drop_more, at_drop_all}
-use Rattle.names.specs.Labels.{label_bytes}
+use Rattle.std.proofs.Common.{sym, ◌∙◌, rules, tests}
+use Rattle.std.proofs.lemmas.Iterator.{YieldsList-from_slice}
+use Rattle.std.proofs.lemmas.Iterator.Search.{all_from_yields_List}
+use Rattle.names.specs.Labels.{label_byte}
+use Rattle.names.proofs.Proper.{all_bytes}
 use Rattle.names.proofs.name.labels.are_label_bytes.Goals as goal
 
-pub returns-then-not-is_label_byte : goal.returns-then-not-is_label_byte
-returns-then-not-is_label_byte c =
-    let bs = c.args.bytes.now in
-    let i = c.loop-b.b-index in
-    let d = drop (i + 1) bs in
-    ap (λ b. b && label_bytes d) c.if-not-is_label_byte.ensures ∙ sym (at_drop_more label_bytes bs i 0 c.loop-b-test.true) ∙ c.loop-b.invariant
-
-pub loop-b-preserved : goal.loop-b-preserved
-loop-b-preserved c =
-    let bs = c.args.bytes.now in
-    let i = c.loop-b.b-index in
-    let d = drop (i + 1) bs in
-    ap (λ b. b && label_bytes d) c.if-not-is_label_byte.ensures ∙ sym (at_drop_more label_bytes bs i 0 c.loop-b-test.true) ∙ c.loop-b.invariant
-
 pub returns : goal.returns
-returns c = sym (at_drop_all label_bytes c.args.bytes.now c.loop-b.b-index c.loop-b-test.false) ∙ c.loop-b.invariant
+returns c =
+    let bs = c.args.bytes.now in
+    all_from_yields_List label_byte _ _ c.all.result c.all.ensures.ran (YieldsList-from_slice bs cc) (λ x b q k. search (rules, tests)) ∙ sym (all_bytes bs)
