@@ -1,9 +1,9 @@
 -- The words of a line, cut off one by one.
-use Rattle.std.proofs.Common.{◌≡◌, ℕ, zero, suc, ◌+◌, ◌<◌, ◌≤◌, Bool, true, false, ◌&&◌, ltb, List, [], ◌∷◌, ◌++◌, length, take, drop, sym, refl, ap, ◌∙◌, arith}
-use Rattle.std.proofs.lemmas.List.{take_at, drop_at, take-append-le, take_all, append-nil, length-append}
+use Rattle.std.proofs.Common.{◌≡◌, ℕ, zero, suc, ◌+◌, ◌<◌, ◌≤◌, Bool, true, false, not, ◌&&◌, ltb, List, [], ◌∷◌, ◌++◌, length, take, drop, sym, refl, ap, ◌∙◌, arith}
+use Rattle.std.proofs.lemmas.List.{take_at, drop_at, take-append-le, take_all, drop_all, append-nil, length-append, length-drop}
 use Rattle.std.proofs.lemmas.Bool.{cond-true, cond-false, and_parts, ltb-true, not_from_false, not_from_true}
 use Rattle.lines.specs.Lines.{blank, in_word, run, readable, read_part, goes_on, before, words, plain, field, fields, line_of, LineLaws}
-use Rattle.lines.proofs.Runs.{run_cons, run_stop, run_nil, run_after, run_append}
+use Rattle.lines.proofs.Runs.{run_cons, run_stop, run_nil, run_after, run_append, run_within}
 
 words_blank : (b : ℕ) (bs : List ℕ) → blank b ≡ true → words (b ∷ bs) ≡ words bs
 unfolding words
@@ -61,14 +61,14 @@ cut_word t h = go (run in_word t) refl h
     go zero e l = absurd (omega arith)
     go (suc n) e l = cut_at t n e ∙ ap (λ m. take m t ∷ words (drop m t)) (sym e)
 
--- where neither a blank nor a word stands, nothing stands
-pub no_word : (t : List ℕ) → run blank t ≡ 0 → run in_word t ≡ 0 → words t ≡ []
-no_word [] h k = words_nil
-no_word (b ∷ t) h k = go (blank b) refl
+-- where no blank stands, a word does
+word_there : (t : List ℕ) → run blank t ≡ 0 → 0 < length t → 0 < run in_word t
+word_there [] h k = omega arith
+word_there (b ∷ t) h k = go (blank b) refl
   where
-    go : (c : Bool) → blank b ≡ c → words (b ∷ t) ≡ []
-    go true e = let z = run_cons blank b t e in absurd (omega arith)
-    go false e = let z = run_cons in_word b t (not_from_false (blank b) e) in absurd (omega arith)
+    go : (c : Bool) → blank b ≡ c → 0 < run in_word (b ∷ t)
+    go true e = let z = run_cons blank b t e in omega arith
+    go false e = let z = run_cons in_word b t (not_from_false (blank b) e) in omega arith
 
 -- ---- the laws
 
@@ -136,29 +136,32 @@ whole ws h = ap (λ n. take n (line_of ws)) (run_line ws h) ∙ take_all (length
 front_of : (line rest : List ℕ) (n : ℕ) → n ≤ length line → take n (line ++ rest) ≡ take n line
 front_of line rest n h = take-append-le n line rest h
 
-run_within : (line : List ℕ) → run readable line ≤ length line
-run_within [] = let z = run_nil readable in omega arith
-run_within (b ∷ line) = go (readable b) refl (run_within line)
-  where
-    go : (c : Bool) → readable b ≡ c → run readable line ≤ length line → run readable (b ∷ line) ≤ suc (length line)
-    go true e ih = let z = run_cons readable b line e in omega arith
-    go false e ih = let z = run_stop readable b line e in omega arith
-
 comment : (line rest : List ℕ) → read_part (line ++ 59 ∷ rest) ≡ read_part line
 comment line rest =
-    ap (λ n. take n (line ++ 59 ∷ rest)) (run_append readable line (59 ∷ rest) (run_stop readable 59 rest refl)) ∙ front_of line (59 ∷ rest) (run readable line) (run_within line)
+    ap (λ n. take n (line ++ 59 ∷ rest)) (run_append readable line (59 ∷ rest) (run_stop readable 59 rest refl)) ∙ front_of line (59 ∷ rest) (run readable line) (run_within readable line)
 
 pub line_laws : LineLaws
 line_laws = record { whole = whole; row = row; comment = comment }
 
--- ---- one word cut off: u is what follows the blanks
+-- ---- one word cut off
 
-pub next_none : (t u : List ℕ) (n m : ℕ) → n ≡ run blank t → u ≡ drop n t → m ≡ run in_word u → m ≡ 0 → words t ≡ []
-next_none t u n m h e k z =
-    let d : u ≡ drop (run blank t) t = e ∙ ap (λ i. drop i t) h in
-    skip_blanks t ∙ ap words (sym d) ∙ no_word u (ap (run blank) d ∙ run_after blank t) (sym k ∙ z)
+blank_run : (t : List ℕ) → run (λ b. not (in_word b)) t ≡ run blank t
+blank_run [] = run_nil (λ b. not (in_word b)) ∙ sym (run_nil blank)
+blank_run (b ∷ t) = go (blank b) refl (blank_run t)
+  where
+    go : (c : Bool) → blank b ≡ c → run (λ x. not (in_word x)) t ≡ run blank t → run (λ x. not (in_word x)) (b ∷ t) ≡ run blank (b ∷ t)
+    go true e ih = run_cons (λ x. not (in_word x)) b t (ap (λ c. not (not c)) e) ∙ ap suc ih ∙ sym (run_cons blank b t e)
+    go false e ih = run_stop (λ x. not (in_word x)) b t (ap (λ c. not (not c)) e) ∙ sym (run_stop blank b t e)
 
-pub next_some : (t u w r : List ℕ) (n m : ℕ) → n ≡ run blank t → u ≡ drop n t → m ≡ run in_word u → 0 < m → w ≡ take m u → r ≡ drop m u → words t ≡ w ∷ words r
-next_some t u w r n m h e k z f g =
-    let d : u ≡ drop (run blank t) t = e ∙ ap (λ i. drop i t) h in
-    skip_blanks t ∙ ap words (sym d) ∙ cut_word u (omega arith) ∙ (λ i. take (sym k i) u ∷ words (drop (sym k i) u)) ∙ (λ i. sym f i ∷ words (sym g i))
+-- all are blanks
+pub next_none : (t : List ℕ) → length t ≤ run (λ b. not (in_word b)) t → words t ≡ []
+next_none t h =
+    let n = blank_run t in
+    skip_blanks t ∙ ap words (drop_all (run blank t) t (omega arith)) ∙ words_nil
+
+-- u is what follows the blanks
+pub next_some : (t u w r : List ℕ) (n m : ℕ) → n ≡ run (λ b. not (in_word b)) t → n < length t → u ≡ drop n t → m ≡ run in_word u → w ≡ take m u → r ≡ drop m u → words t ≡ w ∷ words r
+next_some t u w r n m h l e k f g =
+    let d : u ≡ drop (run blank t) t = e ∙ ap (λ i. drop i t) (h ∙ blank_run t) in
+    let there = word_there u (ap (run blank) d ∙ run_after blank t) (let x = ap length e in let y = length-drop n t in omega arith) in
+    skip_blanks t ∙ ap words (sym d) ∙ cut_word u there ∙ (λ i. take (sym k i) u ∷ words (drop (sym k i) u)) ∙ (λ i. sym f i ∷ words (sym g i))

@@ -1,7 +1,8 @@
 -- The longest front of a list that passes a test.
-use Rattle.std.proofs.Common.{◌≡◌, ℕ, suc, ◌+◌, ◌<◌, ◌≤◌, Bool, true, false, List, [], ◌∷◌, ◌++◌, length, get_or, drop, sym, refl, ap, ◌∙◌, arith}
-use Rattle.std.proofs.lemmas.List.{drop_more, drop_all}
-use Rattle.std.proofs.lemmas.Bool.{cond-true, cond-false}
+use Rattle.std.proofs.Common.{◌≡◌, ℕ, suc, ◌+◌, ◌<◌, ◌≤◌, Bool, true, false, cond, not, ltb, List, [], ◌∷◌, ◌++◌, length, drop, Some, None, MatchOption, Option, sym, refl, ap, ◌∙◌, subst, arith}
+use Rattle.std.specs.List.{position_or_len}
+use Rattle.std.specs.Option.{unwrap_or}
+use Rattle.std.proofs.lemmas.Bool.{cond-true, cond-false, ltb-true, ltb-false}
 use Rattle.lines.specs.Lines.{run}
 
 module _ (test : ℕ → Bool) where
@@ -16,25 +17,6 @@ module _ (test : ℕ → Bool) where
   pub run_nil : run test [] ≡ 0
   unfolding run
   run_nil = refl
-
-  -- the loop that counts: one byte on, a byte that fails, the end
-  pub run_more : (xs : List ℕ) (i : ℕ) → i < length xs → test (get_or xs i 0) ≡ true → run test xs ≡ i + run test (drop i xs) → run test xs ≡ (i + 1) + run test (drop (i + 1) xs)
-  run_more xs i l h e =
-      let a = ap (run test) (drop_more xs i 0 l) in
-      let b = run_cons (get_or xs i 0) (drop (i + 1) xs) h in
-      omega arith
-
-  pub run_ends : (xs : List ℕ) (i : ℕ) → i < length xs → test (get_or xs i 0) ≡ false → run test xs ≡ i + run test (drop i xs) → i ≡ run test xs
-  run_ends xs i l h e =
-      let a = ap (run test) (drop_more xs i 0 l) in
-      let b = run_stop (get_or xs i 0) (drop (i + 1) xs) h in
-      omega arith
-
-  pub run_all : (xs : List ℕ) (i : ℕ) → length xs ≤ i → run test xs ≡ i + run test (drop i xs) → i ≡ run test xs
-  run_all xs i l e =
-      let a = ap (run test) (drop_all i xs l) in
-      let b = run_nil in
-      omega arith
 
   -- what follows the front doesn't pass
   pub run_after : (xs : List ℕ) → run test (drop (run test xs) xs) ≡ 0
@@ -53,3 +35,36 @@ module _ (test : ℕ → Bool) where
       go : (c : Bool) → test b ≡ c → run test (xs ++ ys) ≡ run test xs → run test (b ∷ (xs ++ ys)) ≡ run test (b ∷ xs)
       go true e ih = run_cons b (xs ++ ys) e ∙ ap suc ih ∙ sym (run_cons b xs e)
       go false e ih = run_stop b (xs ++ ys) e ∙ sym (run_stop b xs e)
+
+-- ---- as `position` finds it: the first byte that passes ends the front of those that don't
+
+prefix_run : (p : ℕ → Bool) (xs : List ℕ) → position_or_len p xs ≡ run (λ b. not (p b)) xs
+unfolding run
+prefix_run p [] = refl
+prefix_run p (b ∷ xs) =
+    let ih = prefix_run p xs in
+    let e : 1 + position_or_len p xs ≡ suc (run (λ b. not (p b)) xs) = omega arith in
+    ap (λ n. cond (not (p b)) n 0) e
+
+pub found_at : (p : ℕ → Bool) (xs : List ℕ) (r : Option ℕ) → r ≡ cond (ltb (position_or_len p xs) (length xs)) (Some (position_or_len p xs)) None → MatchOption r (length xs ≤ run (λ b. not (p b)) xs) (λ i. (i ≡ run (λ b. not (p b)) xs) × (i < length xs))
+found_at p xs r h = subst (λ o. MatchOption o (length xs ≤ run (λ b. not (p b)) xs) (λ i. (i ≡ run (λ b. not (p b)) xs) × (i < length xs))) (sym h) (go (ltb (position_or_len p xs) (length xs)) refl)
+  where
+    go : (c : Bool) → ltb (position_or_len p xs) (length xs) ≡ c → MatchOption (cond c (Some (position_or_len p xs)) None) (length xs ≤ run (λ b. not (p b)) xs) (λ i. (i ≡ run (λ b. not (p b)) xs) × (i < length xs))
+    go true e = (prefix_run p xs, ltb-true (position_or_len p xs) (length xs) e)
+    go false e = let l = ltb-false (position_or_len p xs) (length xs) e in let q = prefix_run p xs in omega arith
+
+pub run_within : (test : ℕ → Bool) (xs : List ℕ) → run test xs ≤ length xs
+run_within test [] = let z = run_nil test in omega arith
+run_within test (b ∷ xs) = go (test b) refl (run_within test xs)
+  where
+    go : (c : Bool) → test b ≡ c → run test xs ≤ length xs → run test (b ∷ xs) ≤ suc (length xs)
+    go true e ih = let z = run_cons test b xs e in omega arith
+    go false e ih = let z = run_stop test b xs e in omega arith
+
+-- the front's length: where the first byte that passes stands, or all
+pub front_len : (p : ℕ → Bool) (xs : List ℕ) (r : Option ℕ) → r ≡ cond (ltb (position_or_len p xs) (length xs)) (Some (position_or_len p xs)) None → unwrap_or r (length xs) ≡ run (λ b. not (p b)) xs
+front_len p xs r h = go r (found_at p xs r h)
+  where
+    go : (o : Option ℕ) → MatchOption o (length xs ≤ run (λ b. not (p b)) xs) (λ i. (i ≡ run (λ b. not (p b)) xs) × (i < length xs)) → unwrap_or o (length xs) ≡ run (λ b. not (p b)) xs
+    go None l = let w = run_within (λ b. not (p b)) xs in omega arith
+    go (Some i) m = m.0

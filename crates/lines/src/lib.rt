@@ -1,52 +1,26 @@
 // A line of text as owners and players write it: what is read of it, its words and its numbers.
 #![tactic(auto)]
 
-ghost use Rattle.std.specs.Prelude.{◌≡◌, ◌≤◌, [], ◌∷◌, length, MatchOption};
-ghost use Rattle.lines.specs.Classes.{member, words_left};
-ghost use Rattle.lines.specs.Lines.{read_part, run, words, with_digit, number_in, LineLaws};
+ghost use Rattle.std.specs.Prelude.{◌≡◌};
+ghost use Rattle.std.specs.Iterator.{YieldsFirstRef, item_count};
+ghost use Rattle.lines.specs.Classes.{words_left};
+ghost use Rattle.lines.specs.Lines.{blank, read_part, words, with_digit, number_in, LineLaws};
 
 // The most bytes of a line that are read.
 pub const MAX_LINE: usize = 1200;
 
-// The classes of bytes by which a line is cut.
-#[derive(Clone, Copy)]
-enum Class {
-    // A space or a tab.
-    Blank,
-    // Whatever is no blank.
-    Word,
-    // Whatever stands before a comment.
-    Read,
-}
-
-fn is_of(class: Class, b: u8) -> bool
-    ensures { result ≡ member class b }
+fn is_blank(b: u8) -> bool
+    ensures { result ≡ blank b }
 {
-    match class {
-        Class::Blank => b == b' ' || b == b'\t',
-        Class::Word => b != b' ' && b != b'\t',
-        Class::Read => b != b';',
-    }
-}
-
-// How many bytes at the front are of a class.
-fn run_len(class: Class, text: &[u8]) -> usize
-    ensures value { result ≡ run (member class) text.now }
-    ensures bound { result ≤ length text.now }
-{
-    for (i, b) in text.iter().enumerate() {
-        if !is_of(class, *b) {
-            return i;
-        }
-    }
-    text.len()
+    b == b' ' || b == b'\t'
 }
 
 // What stands before the first semicolon; the rest is a comment.
 pub fn read_part(line: &[u8]) -> &[u8]
     ensures { result.now ≡ read_part line.now }
 {
-    &line[0..run_len(Class::Read, line)]
+    let end = line.iter().position(|b| *b == b';');
+    &line[..end.unwrap_or(line.len())]
 }
 
 // Hands on the words of a line, each as a part of it.
@@ -61,17 +35,20 @@ impl<'a> Words<'a> {
     {
         Words { rest: line }
     }
+}
 
-    pub fn next(&mut self) -> Option<&'a [u8]>
-        ensures { MatchOption result (words_left self.old ≡ []) (λ w. words_left self.old ≡ w.now ∷ words_left self.new) }
-    {
-        let text = self.rest;
-        let text = &text[run_len(Class::Blank, text)..];
-        let len = run_len(Class::Word, text);
-        if len == 0 {
-            return None;
-        }
-        let (word, rest) = text.split_at(len);
+impl<'a> Iterator for Words<'a> {
+    type Item = &'a [u8];
+
+    ghost next_gives = { YieldsFirstRef words_left };
+
+    ghost remaining = { item_count words_left };
+
+    fn next(&mut self) -> Option<&'a [u8]> {
+        let start = self.rest.iter().position(|b| !is_blank(*b))?;
+        let text = &self.rest[start..];
+        let end = text.iter().position(|b| is_blank(*b));
+        let (word, rest) = text.split_at(end.unwrap_or(text.len()));
         self.rest = rest;
         Some(word)
     }

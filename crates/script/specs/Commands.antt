@@ -12,7 +12,7 @@ abbrev pub command_of : Command → Meant
 command_of rust.Nothing = meant.Nothing
 command_of (rust.Zone file) = meant.Zone (vec_items file)
 command_of (rust.Copy server name) = meant.Copy server (labels name)
-command_of (rust.Ask asker name kind) = meant.Ask asker (labels name) kind
+command_of (rust.Ask asker name kind) = meant.Ask asker (labels name) kind.number
 command_of (rust.Bring packet) = meant.Bring packet
 command_of rust.Tick = meant.Tick
 

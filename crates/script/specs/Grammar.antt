@@ -56,6 +56,14 @@ copy_of (s ∷ []) = Err Malformed
 copy_of (s ∷ n ∷ []) = copied (place_in 4 s) (read_below [] n)
 copy_of (s ∷ n ∷ w ∷ ws) = Err Malformed
 
+abbrev pub kind_from : Option ℕ → Result ℕ Fault
+kind_from None = Err BadName
+kind_from (Some k) = Ok k
+
+-- a kind that is there
+abbrev pub kind_in : List ℕ → Result ℕ Fault
+kind_in w = kind_from (place_in 31 w)
+
 -- an asker that isn't there is told before a bad name or kind
 abbrev pub asked : Option ℕ → Result (List (List ℕ)) Fault → Option ℕ → Result Meant Fault
 asked None n k = Err Malformed

@@ -4,20 +4,20 @@
 ghost use Rattle.std.specs.Prelude.{◌≡◌};
 ghost use Rattle.lines.specs.Classes.{words_left};
 ghost use Rattle.names.specs.Names.{given};
+ghost use Rattle.records.specs.Numbers.{kind_given};
 ghost use Rattle.script.specs.Commands.{command_of, Reads};
 ghost use Rattle.script.specs.Laws.{ScriptLaws};
-ghost use Rattle.script.specs.Grammar.{same_word, place_in, meaning, line_meaning, tick_of, zone_of, bring_of, copy_of, ask_of};
+ghost use Rattle.script.specs.Grammar.{place_in, kind_in, meaning, line_meaning, tick_of, zone_of, bring_of, copy_of, ask_of};
 
 use lines::{MAX_LINE, Words, number, read_part};
 use names::{Fault, Name};
+use records::Kind;
 use std::alloc::Global;
 
 // The most servers, askers and boxes that a script plays; boxes are counted behind the askers.
 pub const MAX_SERVER: u64 = 4;
 
 pub const MAX_ASKER: u64 = 12;
-// The highest kind of a record set.
-pub const MAX_KIND: u64 = 31;
 
 #[derive(Drop)]
 pub enum Command {
@@ -25,25 +25,26 @@ pub enum Command {
     Nothing,
     Zone { file: Vec<u8> },
     Copy { server: u64, name: Name },
-    Ask { asker: u64, name: Name, kind: u64 },
+    Ask { asker: u64, name: Name, kind: Kind },
     Bring { packet: u64 },
     Tick,
-}
-
-fn is_word(word: &[u8], text: &[u8]) -> bool
-    ensures { result ≡ same_word word.now text.now }
-{
-    word == text
 }
 
 // A number from 1 to the most.
 fn place(word: &[u8], most: u64) -> Option<u64>
     ensures { result ≡ place_in most word.now }
 {
-    let n = number(word)?;
-    if n >= 1 && n <= most { Some(n) } else { None }
+    number(word).filter(|n| *n >= 1 && *n <= most)
 }
 
+fn read_kind(word: &[u8]) -> Result<Kind, Fault>
+    ensures { kind_given result ≡ kind_in word.now }
+{
+    let number = number(word).and_then(|n| u8::try_from(n).ok());
+    Kind::try_from(number.ok_or(Fault::BadName)?)
+}
+
+// Here and below a reader's answer is taken apart by `let .. else`, as everywhere in this project, and not by `ok_or` and `?`.
 fn read_tick(mut words: Words) -> Result<Command, Fault>
     ensures { Reads (tick_of (words_left words.entry)) result }
 {
@@ -119,9 +120,7 @@ fn read_ask(mut words: Words) -> Result<Command, Fault>
         return Err(Fault::Malformed);
     };
     let name = Name::read_whole(name)?;
-    let Some(kind) = place(kind, MAX_KIND) else {
-        return Err(Fault::BadName);
-    };
+    let kind = read_kind(kind)?;
     Ok(Command::Ask { asker, name, kind })
 }
 
@@ -131,18 +130,13 @@ fn read_words(heap: Global, mut words: Words) -> Result<Command, Fault>
     let Some(verb) = words.next() else {
         return Ok(Command::Nothing);
     };
-    if is_word(verb, b"tick") {
-        read_tick(words)
-    } else if is_word(verb, b"zone") {
-        read_zone(heap, words)
-    } else if is_word(verb, b"bring") {
-        read_bring(words)
-    } else if is_word(verb, b"copy") {
-        read_copy(words)
-    } else if is_word(verb, b"ask") {
-        read_ask(words)
-    } else {
-        Err(Fault::Malformed)
+    match verb {
+        b"tick" => read_tick(words),
+        b"zone" => read_zone(heap, words),
+        b"bring" => read_bring(words),
+        b"copy" => read_copy(words),
+        b"ask" => read_ask(words),
+        _ => Err(Fault::Malformed),
     }
 }
 
