@@ -15,17 +15,11 @@ fn print_name(rt: &HostRuntime, outcome: Result<Name, Fault>) -> io::Result<()> 
             let count = name.label_count();
             println!(rt; "{name} ({count})")
         }
-        Err(fault) => print_fault(rt, fault),
+        Err(fault) => println!(rt; "{fault}"),
     }
 }
 
-fn print_fault(rt: &HostRuntime, fault: Fault) -> io::Result<()> {
-    match fault.number() {
-        Some(number) => println!(rt; "fault {number}"),
-        None => println!(rt; "out of memory"),
-    }
-}
-
+// Small letters alone, so not `char::to_digit`, which takes capitals too.
 fn hex_digit(b: u8) -> io::Result<u8> {
     match b {
         b'0'..=b'9' => Ok(b - b'0'),
@@ -48,13 +42,9 @@ fn hex_bytes(heap: Global, text: &[u8]) -> io::Result<Vec<u8>> {
 
 // How many of the bytes' proper fronts are refused as cut short.
 fn count_cut(bytes: &[u8]) -> usize {
-    let mut count: usize = 0;
-    for end in 0..bytes.len() {
-        if let Err(Fault::Malformed) = Reader::new(&bytes[0..end]).name() {
-            count = count.saturating_add(1);
-        }
-    }
-    count
+    (0..bytes.len())
+        .filter(|end| matches!(Reader::new(&bytes[..*end]).name(), Err(Fault::Malformed)))
+        .count()
 }
 
 // A name from the wire, what is left behind it, how it fares cut short at every length, and whether it is written as it was.
@@ -102,16 +92,12 @@ fn print_case(rt: &HostRuntime, heap: Global, line: &[u8]) -> io::Result<()> {
     let form = words.next().unwrap_or(b"");
     let first = words.next().unwrap_or(b"");
     let second = words.next().unwrap_or(b"");
-    if form == b"read".as_slice() {
-        print_name(rt, Name::read(first))
-    } else if form == b"whole".as_slice() {
-        print_name(rt, Name::read_whole(first))
-    } else if form == b"wire".as_slice() {
-        print_wire(rt, heap, hex_bytes(heap, first)?.as_slice())
-    } else if form == b"below".as_slice() {
-        print_below(rt, first, second)
-    } else {
-        print_order(rt, first, second)
+    match form {
+        b"read" => print_name(rt, Name::read(first)),
+        b"whole" => print_name(rt, Name::read_whole(first)),
+        b"wire" => print_wire(rt, heap, hex_bytes(heap, first)?.as_slice()),
+        b"below" => print_below(rt, first, second),
+        _ => print_order(rt, first, second),
     }
 }
 

@@ -39,7 +39,7 @@ fn are_few(addresses: &[Address]) -> bool
 fn are_some(addresses: &[Address]) -> bool
     ensures { result ≡ nat_le 1 (length (map bytes_of addresses.now)) }
 {
-    addresses.len() >= 1
+    !addresses.is_empty()
 }
 
 fn address_len(address: &Address) -> usize
@@ -50,7 +50,8 @@ fn address_len(address: &Address) -> usize
     bytes.len()
 }
 
-// The bytes of addresses in a transfer, each behind its length.
+// The bytes of addresses in a transfer, each behind its length. Not one generic function with `pieces_len`: of an address
+// in a list nothing says that it has eight bytes, so the bound of the sum can't be proved there.
 fn addresses_len(addresses: &[Address]) -> usize
     requires { length addresses.now ≤ 16 }
     ensures value { result ≡ length (wire_labels (map bytes_of addresses.now)) }

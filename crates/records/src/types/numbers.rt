@@ -1,16 +1,21 @@
 // Kinds and serials: which there are, and what is asked of them.
-ghost use Rattle.std.specs.Prelude.{◌≡◌};
+ghost use Rattle.std.specs.Prelude.{◌≡◌, Some};
 ghost use Rattle.meaning.specs.Model.{delegates, aliases, plain, newer};
 ghost use Rattle.records.specs.Numbers.{kind_of, kind_given, serial_of, serial_given};
+ghost use Rattle.records.specs.Contents.{address_text};
 
-use super::{Kind, Serial};
+use super::{Address, Kind, Serial};
 use names::Fault;
+use std::fmt;
 
 impl Kind {
     // The kinds that mean more than bytes.
     pub const ADDRESS: Kind = Kind { number: 1 };
+
     pub const TEXT: Kind = Kind { number: 2 };
+
     pub const DELEGATION: Kind = Kind { number: 4 };
+
     pub const ALIAS: Kind = Kind { number: 5 };
 
     pub fn number(self) -> u8
@@ -79,5 +84,14 @@ impl TryFrom<u64> for Serial {
         } else {
             Err(Fault::StaleSerial)
         }
+    }
+}
+
+impl fmt::Display for Address {
+    ghost output = { λ a. Some (address_text a) };
+
+    fn fmt<W: fmt::Write>(&self, f: &mut fmt::Formatter<W>) -> fmt::Result {
+        let number = u64::from_be_bytes(self.0);
+        write!(f, "{number:016x}")
     }
 }
