@@ -39,18 +39,7 @@ impl Plan {
 }
 
 fn digit(number: u64) -> u8 {
-    match number % 10 {
-        0 => b'0',
-        1 => b'1',
-        2 => b'2',
-        3 => b'3',
-        4 => b'4',
-        5 => b'5',
-        6 => b'6',
-        7 => b'7',
-        8 => b'8',
-        _ => b'9',
-    }
+    b'0' + (number % 10) as u8
 }
 
 // A letter for the class and a number of four digits.

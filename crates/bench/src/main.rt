@@ -12,7 +12,7 @@ use std::{env, io};
 use zones::{Reply, Zone};
 
 // How often each reply came.
-#[derive(Clone, Copy)]
+#[derive(Clone, Copy, Default)]
 struct Tally {
     data: u64,
     alias: u64,
@@ -36,23 +36,9 @@ fn count(tally: &mut Tally, zone: &Zone, question: &Question) {
 
 // Asks the questions in turn, again and again, until as many were asked as are wanted.
 fn ask(zone: &Zone, questions: &[Question], wanted: u64) -> Tally {
-    let mut tally = Tally {
-        data: 0,
-        alias: 0,
-        referral: 0,
-        no_data: 0,
-        no_name: 0,
-        outside: 0,
-    };
-    let mut at: usize = 0;
-    for _ in 0..wanted {
-        if at >= questions.len() {
-            at = 0;
-        }
-        if at < questions.len() {
-            count(&mut tally, zone, &questions[at]);
-            at += 1;
-        }
+    let mut tally = Tally::default();
+    for (_, question) in (0..wanted).zip(questions.iter().cycle()) {
+        count(&mut tally, zone, question);
     }
     tally
 }
@@ -66,14 +52,9 @@ fn report(rt: &HostRuntime, tally: Tally) -> io::Result<()> {
 
 fn lookup(rt: &HostRuntime, heap: Global, sets: u64, wanted: u64) -> io::Result<()> {
     let plan = load::Plan::new(sets);
-    let made = match load::zone(heap, &plan) {
-        Ok(zone) => zone,
-        Err(_) => return Err(io::Error::other("no such zone")),
-    };
-    let questions = match questions::mix(heap, &plan) {
-        Ok(questions) => questions,
-        Err(_) => return Err(io::Error::other("no such questions")),
-    };
+    let made = load::zone(heap, &plan).map_err(|_| io::Error::other("no such zone"))?;
+    let questions =
+        questions::mix(heap, &plan).map_err(|_| io::Error::other("no such questions"))?;
     let tally = ask(&made, questions.as_slice(), wanted);
     let loaded = made.sets().len();
     println!(rt; "sets {loaded}")?;

@@ -17,7 +17,7 @@ pub struct Question {
 }
 
 fn one_of(number: u64, count: u64) -> u64 {
-    if count == 0 { 0 } else { number % count }
+    number.checked_rem(count).unwrap_or(0)
 }
 
 fn asked(plan: &Plan, turn: u64) -> Result<Name, Fault> {
@@ -34,7 +34,9 @@ fn asked(plan: &Plan, turn: u64) -> Result<Name, Fault> {
 
 // A label with one letter more.
 fn longer(label: [u8; 5]) -> [u8; 6] {
-    [label[0], label[1], label[2], label[3], label[4], b'x']
+    let mut long = [b'x'; 6];
+    long[..5].copy_from_slice(&label);
+    long
 }
 
 pub fn mix(heap: Global, plan: &Plan) -> Result<Vec<Question>, Fault> {

@@ -1,12 +1,12 @@
 -- What holds of every name, by its fields: its labels, where they lie, and their limits.
-use Rattle.std.proofs.Common.{◌≡◌, ℕ, zero, suc, ◌+◌, ◌<◌, ◌≤◌, true, List, [], ◌∷◌, length, get_or, take, sym, refl, ap, ◌∙◌, subst, add-one, arith}
+use Rattle.std.proofs.Common.{◌≡◌, ℕ, zero, suc, ◌+◌, ◌<◌, ◌≤◌, true, List, [], ◌∷◌, length, get_or, take, sym, refl, ap, ◌∙◌, add-one, arith}
 use Rattle.std.specs.List.{between}
 use Rattle.std.proofs.lemmas.List.{length-take-le, get_or-take}
 use Rattle.names.specs.declared.name.Name.{Name}
 use Rattle.names.specs.Labels.{proper}
 use Rattle.names.specs.Layout.{start_at}
 use Rattle.names.specs.Names.{labels}
-use Rattle.names.proofs.Pieces.{length_pieces, piece_at, rising_room, rising_at}
+use Rattle.names.proofs.Pieces.{length_pieces, piece_at, rising_at}
 use Rattle.names.proofs.Proper.{weight, weight_pieces}
 
 module _ (n : Name) where
@@ -28,11 +28,6 @@ module _ (n : Name) where
   pub start_used : (i : ℕ) → i ≤ n.count → get_or (0 ∷ used) i 0 ≡ start_at n.ends i
   start_used zero h = refl
   start_used (suc i) h = get_or-take n.count n.ends i 0 (omega arith)
-
-  pub start_room : (i : ℕ) → i ≤ n.count → start_at n.ends i ≤ length n.bytes
-  start_room i h =
-      let l = used_length in
-      subst (λ k. k ≤ length n.bytes) (start_used i h) (rising_room 0 used (length n.bytes) n.laid i (omega arith))
 
   pub start_below : (i : ℕ) → i < n.count → start_at n.ends i < start_at n.ends (i + 1)
   start_below i h =

@@ -1,10 +1,10 @@
 -- The order of names: laws, and the step of the loop that finds it.
-use Rattle.std.proofs.Common.{◌≡◌, ℕ, ◌+◌, ◌-◌, ◌<◌, ◌≤◌, min, max, true, false, ◌⊎◌, List, [], ◌∷◌, ◌++◌, length, get_or, drop, Ordering, Less, Equal, Greater, sym, refl, ap, ◌∙◌, subst, inl, inr, ⊎_elim, true≢false, arith, length-drop}
+use Rattle.std.proofs.Common.{◌≡◌, ℕ, ◌<◌, true, ◌⊎◌, List, [], ◌∷◌, ◌++◌, length, drop, Ordering, Less, Equal, Greater, sym, refl, ap, ◌∙◌, subst, inl, inr, true≢false}
 use Rattle.std.specs.Cmp.{IsTotalOrder, nat_cmp_total, ranks}
 use Rattle.std.specs.Cmp.Lexicographic.{slice_cmp, lists_total}
-use Rattle.std.specs.Ordering.{is_le, is_lt, is_gt, is_ne, ordering_reverse, ordering_then, MatchOrdering, nat_cmp}
-use Rattle.std.proofs.lemmas.List.{drop_at, drop_more}
-use Rattle.std.proofs.lemmas.Bool.{and_parts, and_from, cases_lt}
+use Rattle.std.specs.Ordering.{is_le, is_lt, is_gt, ordering_reverse, ordering_then, MatchOrdering, nat_cmp}
+use Rattle.std.proofs.lemmas.List.{drop_at}
+use Rattle.std.proofs.lemmas.Bool.{and_parts, and_from}
 use Rattle.names.specs.Order.{same_label, label_order, within, order, NotAfter, OrderLaws}
 use Rattle.names.specs.Comparing.{names_total}
 use Rattle.names.proofs.Within.{same_label_lem, within_front, names_told}
@@ -131,60 +131,6 @@ order_laws = record {
 }
 
 -- ---- as it is found out
-
--- one label on
-order_more : (a b : List (List ℕ)) (i : ℕ) → i < length a → i < length b → order (drop i a) (drop i b) ≡ ordering_then (label_order (get_or a i []) (get_or b i [])) (order (drop (i + 1) a) (drop (i + 1) b))
-unfolding order
-order_more a b i h k = λ j. order (drop_more a i [] h j) (drop_more b i [] k j)
-
-decided : (r s : Ordering) → is_ne r ≡ true → r ≡ ordering_then r s
-decided Less s h = refl
-decided Equal s h = absurd (true≢false (sym h))
-decided Greater s h = refl
-
-undecided : (r s : Ordering) → is_ne r ≡ false → s ≡ ordering_then r s
-undecided Less s h = absurd (true≢false h)
-undecided Equal s h = refl
-undecided Greater s h = absurd (true≢false h)
-
--- labels that differ decide
-pub order_decided : (a b : List (List ℕ)) (i : ℕ) (r : Ordering) → i < length a → i < length b → r ≡ label_order (get_or a i []) (get_or b i []) → is_ne r ≡ true → r ≡ order (drop i a) (drop i b)
-order_decided a b i r h k e d = decided r (order (drop (i + 1) a) (drop (i + 1) b)) d ∙ ap (λ s. ordering_then s (order (drop (i + 1) a) (drop (i + 1) b))) e ∙ sym (order_more a b i h k)
-
--- labels that are the same leave it to the rest
-pub order_undecided : (a b : List (List ℕ)) (i : ℕ) (r : Ordering) → i < length a → i < length b → r ≡ label_order (get_or a i []) (get_or b i []) → is_ne r ≡ false → order (drop (i + 1) a) (drop (i + 1) b) ≡ order (drop i a) (drop i b)
-order_undecided a b i r h k e d = undecided r (order (drop (i + 1) a) (drop (i + 1) b)) d ∙ ap (λ s. ordering_then s (order (drop (i + 1) a) (drop (i + 1) b))) e ∙ sym (order_more a b i h k)
-
--- where one name has no label left, the number of labels decides
-ends_by : (a b : List (List ℕ)) (n m : ℕ) (r : Ordering) → n ≡ length a → m ≡ length b → (n ≡ 0) ⊎ (m ≡ 0) → MatchOrdering r (n < m) (n ≡ m) (m < n) → r ≡ order a b
-unfolding order
-ends_by [] [] n m Less p q o h = absurd (omega arith)
-ends_by [] [] n m Equal p q o h = refl
-ends_by [] [] n m Greater p q o h = absurd (omega arith)
-ends_by [] (y ∷ b) n m Less p q o h = refl
-ends_by [] (y ∷ b) n m Equal p q o h = absurd (omega arith)
-ends_by [] (y ∷ b) n m Greater p q o h = absurd (omega arith)
-ends_by (x ∷ a) [] n m Less p q o h = absurd (omega arith)
-ends_by (x ∷ a) [] n m Equal p q o h = absurd (omega arith)
-ends_by (x ∷ a) [] n m Greater p q o h = refl
-ends_by (x ∷ a) (y ∷ b) n m r p q (inl z) h = absurd (omega arith)
-ends_by (x ∷ a) (y ∷ b) n m r p q (inr z) h = absurd (omega arith)
-
-less_each : (i n m : ℕ) (r : Ordering) → i ≤ n → i ≤ m → MatchOrdering r (n < m) (n ≡ m) (m < n) → MatchOrdering r (n - i < m - i) (n - i ≡ m - i) (m - i < n - i)
-less_each i n m Less p q h = omega arith
-less_each i n m Equal p q h = omega arith
-less_each i n m Greater p q h = omega arith
-
--- d is where the comparing began, and x and y are the numbers of labels, counted as at least that
-pub order_ends : (a b : List (List ℕ)) (d i n m x y : ℕ) (r : Ordering) → n ≡ length a → m ≡ length b → i ≡ max d (min n m) → x ≡ max n d → y ≡ max m d → r ≡ nat_cmp x y → r ≡ order (drop i a) (drop i b)
-order_ends a b d i n m x y r p q at e f c =
-    let h : MatchOrdering r (x < y) (x ≡ y) (y < x) = subst (λ s. MatchOrdering s (x < y) (x ≡ y) (y < x)) (sym c) (ranks x y) in
-    let g = length-drop i a in
-    let k = length-drop i b in
-    ends_by (drop i a) (drop i b) (x - i) (y - i) r (omega arith) (omega arith) one_gone (less_each i x y r (omega arith) (omega arith) h)
-  where
-    one_gone : (x - i ≡ 0) ⊎ (y - i ≡ 0)
-    one_gone = ⊎_elim (λ l. inl (omega arith)) (λ l. inr (omega arith)) (cases_lt n m)
 
 -- names that share their first labels stand to each other as what is left of them
 order_front : (a r s : List (List ℕ)) → order (a ++ r) (a ++ s) ≡ order r s

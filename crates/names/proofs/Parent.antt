@@ -1,10 +1,10 @@
 -- One label less: the block of the name above, and that the root has none.
-use Rattle.std.proofs.Common.{◌≡◌, ℕ, ◌+◌, ◌≤◌, true, List, [], ◌∷◌, length, take, drop, Some, None, sym, refl, ap, ◌∙◌, arith}
+use Rattle.std.proofs.Common.{◌≡◌, ℕ, ◌≤◌, true, length, take, drop, sym, ap, ◌∙◌}
 use Rattle.std.proofs.lemmas.List.{take-take, take-append-drop}
 use Rattle.names.specs.declared.name.Name.{Name}
 use Rattle.names.specs.Labels.{proper}
 use Rattle.names.specs.Layout.{pieces, rising}
-use Rattle.names.specs.Names.{labels, parent_of}
+use Rattle.names.specs.Names.{labels}
 use Rattle.names.proofs.Pieces.{pieces_take, rising_take}
 use Rattle.names.proofs.Proper.{proper_front}
 use Rattle.names.proofs.Laws.{labels_proper}
@@ -23,11 +23,3 @@ module _ (n : Name) (m : ℕ) (few : m ≤ n.count) where
 
   pub upper_limited : proper (pieces 0 (take m n.ends) n.bytes) ≡ true
   upper_limited = ap proper upper_labels ∙ proper_front (take m (labels n)) (drop m (labels n)) (ap proper (take-append-drop m (labels n)) ∙ labels_proper n)
-
-pub no_parent : (ls : List (List ℕ)) → length ls ≡ 0 → None ≡ parent_of ls
-no_parent [] h = refl
-no_parent (l ∷ ls) h = absurd (omega arith)
-
-pub parent_is : (ls : List (List ℕ)) (m : ℕ) → length ls ≡ m + 1 → Some (take m ls) ≡ parent_of ls
-parent_is [] m h = absurd (omega arith)
-parent_is (l ∷ ls) m h = let e : m ≡ length ls = omega arith in ap (λ k. Some (take k (l ∷ ls))) e

@@ -6,8 +6,7 @@ mod sample;
 mod walk;
 
 use clock::Clock;
-use names::{Fault, Name};
-use records::Kind;
+use names::Fault;
 use script::{Command, read_command};
 use std::alloc::Global;
 use std::io;
@@ -36,8 +35,9 @@ fn play(
             println!(rt; "line {line}: copy {server} {name}: read, not played yet")
         }
         Command::Ask { asker, name, kind } => {
-            println!(rt; "line {line}: ask {asker} {name} {kind}")?;
-            ask(rt, zones, &name, kind)
+            let number = kind.number();
+            println!(rt; "line {line}: ask {asker} {name} {number}")?;
+            walk::walk(rt, zones, &name, kind)
         }
         Command::Bring { packet } => {
             println!(rt; "line {line}: bring {packet}: read, not played yet")
@@ -45,18 +45,10 @@ fn play(
     }
 }
 
-fn ask(rt: &HostRuntime, zones: &[Zone], name: &Name, kind: u64) -> io::Result<()> {
-    let number = u8::try_from(kind).unwrap_or(0);
-    match Kind::try_from(number) {
-        Ok(kind) => walk::walk(rt, zones, name, kind),
-        Err(_) => Ok(()),
-    }
-}
-
 fn report(rt: &HostRuntime, line: u64, fault: Fault) -> io::Result<()> {
-    match fault.number() {
-        Some(number) => println!(rt; "line {line} fault {number}"),
-        None => println!(rt; "line {line}: out of memory"),
+    match fault {
+        Fault::NoMemory => println!(rt; "line {line}: {fault}"),
+        _ => println!(rt; "line {line} {fault}"),
     }
 }
 

@@ -2,17 +2,12 @@
 use names::Name;
 use records::{Address, Data, Kind, RecordSet};
 use std::io;
+use walks::MAX_STEPS;
 use zones::{Reply, Zone};
-
-// The most words on the way.
-const MAX_STEPS: usize = 24;
 
 fn print_addresses(rt: &HostRuntime, addresses: &[Address]) -> io::Result<()> {
     for address in addresses {
-        print!(rt; " ")?;
-        for b in address.0 {
-            print!(rt; "{b:02x}")?;
-        }
+        print!(rt; " {address}")?;
     }
     Ok(())
 }
@@ -52,12 +47,7 @@ fn print_reply(rt: &HostRuntime, zone: &Zone, reply: &Reply) -> io::Result<()> {
 }
 
 fn find<'a>(zones: &'a [Zone], apex: &Name) -> Option<&'a Zone> {
-    for zone in zones {
-        if *zone.apex() == *apex {
-            return Some(zone);
-        }
-    }
-    None
+    zones.iter().find(|zone| *zone.apex() == *apex)
 }
 
 pub fn walk(rt: &HostRuntime, zones: &[Zone], asked: &Name, kind: Kind) -> io::Result<()> {

@@ -6,9 +6,6 @@ use Rattle.lines.proofs.number.Goals as goal
 pub returns-then-is_empty : goal.returns-then-is_empty
 returns-then-is_empty c = no_number c.args.word.now (eqb-true _ 0 (sym c.if-is_empty.ensures))
 
-pub loop-b-init : goal.loop-b-init
-loop-b-init c = none_read c.args.word.now
-
 pub returns-in_err-value : goal.returns-in_err-value
 returns-in_err-value c =
     c.from_residual.ensures ∙ stops c.args.word.now c.loop-b.value c.loop-b.b-index c.loop-b.invariant c.loop-b-test.true (sym c.in_err-value.ensures)

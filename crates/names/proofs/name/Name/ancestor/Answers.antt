@@ -1,13 +1,9 @@
-use Rattle.std.proofs.Common.{sym, arith, rules}
-use Rattle.std.proofs.lemmas.List.{take_all}
+use Rattle.std.proofs.Common.{arith, rules}
 use Rattle.names.specs.Names.{labels}
 use Rattle.names.proofs.Laws.{count_is, labels_proper}
 use Rattle.names.proofs.Proper.{limits}
 use Rattle.names.proofs.Parent.{upper_laid, upper_labels, upper_limited}
 use Rattle.names.proofs.name.Name.ancestor.Goals as goal
-
-pub returns-then-count-label_count : goal.returns-then-count-label_count
-returns-then-count-label_count c = sym (take_all c.args.count (labels c.args.self.now) (omega arith))
 
 pub invariant_of-result : goal.invariant_of-result
 invariant_of-result c =

@@ -1,10 +1,8 @@
 use Rattle.std.proofs.Common.{vec_items, sym, ap, ◌∙◌}
-use Rattle.std.proofs.lemmas.Result.{err_from_is_err_and}
 use Rattle.names.specs.Iterating.{labels_left}
 use Rattle.names.specs.Labels.{proper_labels}
 use Rattle.names.specs.Names.{labels}
-use Rattle.names.specs.Wire.{wire}
-use Rattle.names.proofs.Appending.{none_written, one_written, all_written, part_written, first_short}
+use Rattle.names.proofs.Appending.{none_written, one_written, all_written, first_short}
 use Rattle.names.proofs.Laws.{count_is, labels_proper}
 use Rattle.names.proofs.Proper.{limits}
 use Rattle.names.proofs.name.Name.append_wire.Goals as goal
@@ -15,20 +13,11 @@ loop-label-init c =
     let all = ap labels_left c.into_iter-label-iterator.ensures.into_iter_gives ∙ c.labels-label-items.ensures in
     (ap proper_labels all ∙ (limits (labels n) (labels_proper n)).labels, none_written (vec_items c.push.new.self) (labels n) _ all)
 
-pub append_label-requires : goal.append_label-requires
-append_label-requires c = (first_short _ _ c.in-Some.label.now c.loop-label.invariant.0 c.in-Some.ensures.steps).0
-
 pub loop-label-preserved : goal.loop-label-preserved
 loop-label-preserved c = (
   (first_short _ _ c.in-Some.label.now c.loop-label.invariant.0 c.in-Some.ensures.steps).1,
   one_written _ _ _ _ _ _ c.in-Some.label.now c.loop-label.invariant.1 c.in-Some.ensures.steps c.in_ok-append_label.ensures,
 )
-
-pub returns-in_err-append_label : goal.returns-in_err-append_label
-returns-in_err-append_label c =
-    let y = err_from_is_err_and c.from_residual-in_err-append_label.result c.from_residual-in_err-append_label.ensures.1 in
-    let p = c.in_err-append_label.ensures in
-    part_written (vec_items c.args.out.now) _ _ p.0 (vec_items c.append_label.new.out) (wire (labels c.args.self.now)) _ _ c.args.self.now.count c.from_residual-in_err-append_label.result y.0 c.in_ok-push.ensures.items c.loop-label.invariant.1 p.1 y.1
 
 pub returns : goal.returns
 returns c =

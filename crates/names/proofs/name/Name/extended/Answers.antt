@@ -1,17 +1,11 @@
-use Rattle.std.proofs.Common.{◌++◌, Err, sym, ap, ◌∙◌, append-nil, rules, tests}
+use Rattle.std.proofs.Common.{◌++◌, Err, sym, ap, ◌∙◌, rules, tests}
 use Rattle.std.specs.Slice.Iter.{rsplit_parts, split_rest, split_done, split_callee}
 use Rattle.std.proofs.lemmas.Result.{err_from_is_err_and}
 use Rattle.names.specs.Names.{labels, given}
 use Rattle.names.specs.Reading.{labels_in}
-use Rattle.names.proofs.Extend.{one_read, refused_there, named_all}
+use Rattle.names.proofs.Extend.{refused_there, named_all}
 use Rattle.names.proofs.Splitting.{one_more_read, all_read}
 use Rattle.names.proofs.name.Name.extended.Goals as goal
-
-pub loop-label-init : goal.loop-label-init
-loop-label-init c = sym (append-nil (labels c.args.self.now))
-
-pub loop-label-preserved : goal.loop-label-preserved
-loop-label-preserved c = one_read (labels c.args.self.now) c.loop-label.yielded c.in-Some.label (labels c.loop-label.name) (labels c.push.new.self) c.loop-label.invariant c.in_ok-push.ensures
 
 pub returns-in_err-push : goal.returns-in_err-push
 returns-in_err-push c =

@@ -1,7 +1,7 @@
-use Rattle.std.proofs.Common.{[], ◌∷◌, ◌++◌, Ok, sym, refl, ap, ◌∙◌, arith, rules}
+use Rattle.std.proofs.Common.{[], ◌∷◌, ◌++◌, Ok, sym, refl, ap, ◌∙◌, arith}
 use Rattle.names.specs.Labels.{proper}
 use Rattle.names.specs.Names.{labels}
-use Rattle.names.proofs.Push.{label_length, named, pushed, full, ill_made, too_long}
+use Rattle.names.proofs.Push.{named, pushed, full, ill_made, too_long}
 use Rattle.names.proofs.name.Name.push.Goals as goal
 use Rattle.names.proofs.name.Name.push.Goals.{then-count-ge-MAX_LABELS-via-then-count-ge-MAX_LABELS, then-count-ge-MAX_LABELS-via-else-count-ge-MAX_LABELS+then-not-is_label}
 
@@ -13,12 +13,6 @@ returns-then-count-ge-MAX_LABELS c = (
   ],
   refl,
 )
-
-pub overflow_add-end : goal.overflow_add-end
-overflow_add-end c = let l = label_length c.args.label.now (sym c.if-not-is_label.ensures) in search rules
-
-pub overflow_add-end-2 : goal.overflow_add-end-2
-overflow_add-end-2 c = let l = label_length c.args.label.now (sym c.if-not-is_label.ensures) in search rules
 
 pub returns-then-end-count-gt-MAX_WRITTEN : goal.returns-then-end-count-gt-MAX_WRITTEN
 returns-then-end-count-gt-MAX_WRITTEN c = (too_long c.args.self.now c.args.label.now (omega arith), refl)
