@@ -1,3 +1,2 @@
 mod Finding
 mod Counting
-mod Keeping
