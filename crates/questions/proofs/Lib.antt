@@ -1,2 +1,3 @@
 mod Finding
 mod Counting
+pub mod Writing

@@ -1,5 +1,5 @@
 // A query counts as a try, once, for every question that lacks its word and may use it.
-ghost use Rattle.std.specs.Prelude.{◌≡◌};
+ghost use Rattle.std.specs.Prelude.{◌≡◌, map};
 ghost use Rattle.protocol.specs.Walks.{shown_by};
 ghost use Rattle.cache.specs.Caches.{entries_of};
 ghost use Rattle.cache.specs.Entries.{rules};
@@ -9,7 +9,7 @@ ghost use Rattle.questions.specs.Tries.{question_of};
 ghost use Rattle.resolver.specs.Resolvers.{roots_of, rules_for, state_of, count_by};
 
 use super::Resolver;
-use cache::{Cache, Moment};
+use cache::{Cache, Key, Moment};
 use questions::{Pending, Question};
 use walks::{Ending, walk};
 
@@ -17,10 +17,13 @@ use walks::{Ending, walk};
 fn lacks_word(cache: &Cache, moment: Moment, question: &Question, pending: &Pending) -> bool
     ensures { result ≡ lacks_for (pending_of pending.now) (question_of question.now).kind (shown_by rules moment.0 (entries_of cache.now) (question_of question.now).name (question_of question.now).kind).end }
 {
-    match walk(cache, moment, question.name(), question.kind()).ending {
-        Ending::Lacks(apex, name) => pending.is_for(&apex, &name, question.kind()),
-        Ending::Shows(_) => false,
-        Ending::TooLong => false,
+    let request = question.request();
+    match walk(cache, moment, &request.name, request.kind).ending {
+        Ending::Lacks(apex, name) => {
+            let kind = request.kind;
+            pending.is_for(&Key { apex, name, kind })
+        }
+        _ => false,
     }
 }
 
@@ -29,8 +32,16 @@ fn count_for(cache: &Cache, moment: Moment, question: &mut Question, pending: &P
     ensures { question_of question.new ≡ count_by moment.0 (entries_of cache.now) (pending_of pending.now) (question_of question.old) }
 {
     if lacks_word(cache, moment, question, pending) {
-        let query = pending.query;
-        question.count_try(&query.apex, &query.name, pending.place, query.id);
+        question.count_try(pending);
+    }
+}
+
+// Counted for each of some questions.
+pub fn count_each(cache: &Cache, moment: Moment, walks: &mut [Question], pending: &Pending)
+    ensures { map question_of walks.new ≡ map (count_by moment.0 (entries_of cache.now) (pending_of pending.now)) (map question_of walks.old) }
+{
+    for question in walks {
+        count_for(cache, moment, question, pending);
     }
 }
 
@@ -40,9 +51,6 @@ impl Resolver {
         ensures roots { roots_of self.new ≡ roots_of self.old }
     {
         let moment = self.moment;
-        let cache = &self.cache;
-        for question in self.walks.iter_mut() {
-            count_for(cache, moment, question, pending);
-        }
+        count_each(&self.cache, moment, self.walks.as_mut_slice(), pending);
     }
 }
