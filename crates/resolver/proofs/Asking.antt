@@ -49,9 +49,6 @@ module _ (r : Rules) (st : State) where
   abbrev pub NoneDone : List Question → ℕ → Type 0
   NoneDone us i = settle_in r st us ≡ record { walks = take i us ++ (settle_in r st (drop i us)).walks; shown = (settle_in r st (drop i us)).shown }
 
-  pub none_yet : (us : List Question) → NoneDone us 0
-  none_yet us = refl
-
   split_at : (us : List Question) (i : ℕ) (u : Question) → i < length us → u ≡ get_or us i u → drop i us ≡ u ∷ drop (i + 1) us
   split_at us i u l e = drop_more us i u l ∙ ap (λ x. x ∷ drop (i + 1) us) (sym e)
 

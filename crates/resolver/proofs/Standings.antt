@@ -1,6 +1,6 @@
 -- Where a question stands, by what its walk came to.
-use Rattle.std.proofs.Common.{◌≡◌, ℕ, ◌*◌, ◌/◌, Bool, true, false, leb, sym, refl, ap, ◌∙◌, arith}
-use Rattle.std.proofs.lemmas.Bool.{cond-true, cond-false, leb-true, leb-false, le-leb, lt-leb}
+use Rattle.std.proofs.Common.{◌≡◌, ℕ, true, false, sym, ap, ◌∙◌}
+use Rattle.std.proofs.lemmas.Bool.{cond-true, cond-false}
 use Rattle.protocol.specs.Words.{Name, Outcome}
 use Rattle.protocol.specs.World.{Rules}
 use Rattle.protocol.specs.Walks.{Shows, LacksAt, TooLong}
@@ -32,11 +32,3 @@ module _ (r : Rules) (st : State) (u : Question) (c : Course) (q : Name) (k : �
       ap (λ n. lacking a p c.servers (tried_of a p u.tries) (pending_for a p n st.pending)) kind_is
       ∙ ap (λ ss. lacking a p ss (tried_of a p u.tries) (pending_for a p u.kind st.pending)) (ap (λ (x : Course). x.servers) e)
       ∙ sym (cond-false (too_many (tried_of a p u.tries) u.tries) (Done Nowhere 0) (lacking a p (servers_on r (walk_of r st u).words) (tried_of a p u.tries) (pending_for a p u.kind st.pending)) t) ∙ lacks a p h
-
--- twice as many are as many as half
-pub halved : (n c : ℕ) → leb n (c / 2) ≡ leb (2 * n) c
-halved n c = go (leb n (c / 2)) refl
-  where
-    go : (b : Bool) → leb n (c / 2) ≡ b → leb n (c / 2) ≡ leb (2 * n) c
-    go true e = let l = leb-true n (c / 2) e in e ∙ sym (le-leb (2 * n) c (omega arith))
-    go false e = let l = leb-false n (c / 2) e in e ∙ sym (lt-leb (2 * n) c (omega arith))

@@ -1,5 +1,5 @@
 -- What the code's resolver stands for.
-use Rattle.std.specs.Prelude.{ℕ, cond, List, [], map, Some, None, vec_items, Option}
+use Rattle.std.specs.Prelude.{ℕ, List, [], map, vec_items, Option}
 use Rattle.std.specs.Option.{option_map}
 use Rattle.std.specs.List.{slice_get}
 use Rattle.names.specs.Names.{labels}

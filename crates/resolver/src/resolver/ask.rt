@@ -71,9 +71,7 @@ impl Resolver {
     {
         let (place, outcome) = self.first_done()?;
         let question = self.walks.remove(place);
-        Some(Shown {
-            request: *question.request(),
-            outcome,
-        })
+        let request = *question.request();
+        Some(Shown { request, outcome })
     }
 }

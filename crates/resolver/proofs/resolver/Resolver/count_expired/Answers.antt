@@ -1,4 +1,4 @@
-use Rattle.std.proofs.Common.{◌≡◌, Bool, not, map, length, refl, sym, ap, ◌∙◌, arith}
+use Rattle.std.proofs.Common.{◌≡◌, Bool, not, map, length, sym, ap, ◌∙◌, arith}
 use Rattle.cache.specs.Entries.{rules as times}
 use Rattle.machine.specs.Machine.{Pending, is_open, with_walks, count_all}
 use Rattle.protocol.specs.Lists.{kept}
@@ -9,9 +9,6 @@ use Rattle.resolver.specs.Resolvers.{rules_for, state_of}
 use Rattle.resolver.proofs.Ticking.{passed_by, counted_one, all_counted}
 use Rattle.resolver.proofs.resolver.Resolver.count_expired.Goals.{then-not-is_open, else-not-is_open}
 use Rattle.resolver.proofs.resolver.Resolver.count_expired.Goals as goal
-
-pub loop-pending-init : goal.loop-pending-init
-loop-pending-init c = refl
 
 pub loop-pending-preserved : goal.loop-pending-preserved
 loop-pending-preserved c =

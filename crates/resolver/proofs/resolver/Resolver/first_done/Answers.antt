@@ -4,11 +4,8 @@ use Rattle.cache.specs.Caches.{entries_of}
 use Rattle.questions.specs.Tries.{question_of}
 use Rattle.machine.specs.Machine.{is_done, shown_as}
 use Rattle.resolver.specs.Resolvers.{roots_of, rules_for, state_of, answer_for}
-use Rattle.resolver.proofs.Asking.{none_yet, not_this, this_one, none_done, not_done, read_at}
+use Rattle.resolver.proofs.Asking.{not_this, this_one, none_done, not_done, read_at}
 use Rattle.resolver.proofs.resolver.Resolver.first_done.Goals as goal
-
-pub loop-place-init : goal.loop-place-init
-loop-place-init c = none_yet (rules_for c.args.self.now) (state_of c.args.self.now) (map question_of c.args.self.now.walks)
 
 pub loop-place-preserved : goal.loop-place-preserved
 loop-place-preserved c =

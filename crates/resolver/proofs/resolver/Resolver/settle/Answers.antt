@@ -1,5 +1,4 @@
-use Rattle.std.proofs.Common.{map, Some, sym, ap, ◌∙◌, arith}
-use lib.ListN.{length-map}
+use Rattle.std.proofs.Common.{map, Some, sym, ap, ◌∙◌}
 use Rattle.cache.specs.Caches.{entries_of}
 use Rattle.questions.specs.Tries.{question_of}
 use Rattle.machine.specs.Machine.{Settled, with_walks, shown_as}
@@ -14,7 +13,7 @@ returns-clause-shown c =
     let answer = answer_for (entries_of self.cache) at.outcome.answer in
     let q = c.remove-question.result in
     let r = read_at question_of self.walks at.place q at.ensures.0 c.remove-question.ensures.value (question_of q) in
-    (λ i. Some (record { ticket = c.request.ensures.ticket i; name = c.request.ensures.name i; kind = c.request.ensures.kind i; answer = answer; left = at.outcome.left }))
+    (λ i. Some (record { ticket = c.request-request.ensures.ticket i; name = c.request-request.ensures.name i; kind = c.request-request.ensures.kind i; answer = answer; left = at.outcome.left }))
     ∙ (λ i. Some (shown_as (r i) answer at.outcome.left))
     ∙ sym (ap (λ (s : Settled). s.shown) (at.ensures.1 (question_of q)))
 

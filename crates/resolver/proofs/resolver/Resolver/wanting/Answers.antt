@@ -1,17 +1,11 @@
-use Rattle.std.proofs.Common.{◌≡◌, Bool, map, sym, ap, ◌∙◌}
+use Rattle.std.proofs.Common.{Bool, sym, ap, ◌∙◌}
 use Rattle.std.specs.Option.{option_map}
 use Rattle.cache.specs.Caches.{entries_of}
 use Rattle.questions.specs.Tries.{question_of}
-use Rattle.machine.specs.Machine.{Question, last_of, is_waiting, standing}
+use Rattle.machine.specs.Machine.{Question, is_waiting, standing}
 use Rattle.resolver.specs.Resolvers.{roots_of, rules_for, state_of}
 use Rattle.resolver.proofs.Drawing.{none_left, not_this, this_one, not_waiting, wish_is}
 use Rattle.resolver.proofs.resolver.Resolver.wanting.Goals as goal
-
-pub loop-question-init : goal.loop-question-init
-loop-question-init c =
-    let self = c.args.self.now in
-    let test : Question → Bool = λ u. is_waiting (standing (rules_for self) (state_of self) u) in
-    sym (ap (λ it. last_of test (map question_of it.iter.rest.now)) c.into_iter-question-iterator.ensures.into_iter_gives ∙ ap (λ it. last_of test (map question_of it.rest.now)) c.rev-question-items.ensures.source ∙ ap (λ ws. last_of test (map question_of ws)) (c.iter.ensures.rest ∙ c.as_slice.ensures))
 
 pub loop-question-preserved : goal.loop-question-preserved
 loop-question-preserved c =
