@@ -1,13 +1,11 @@
 -- A drawn id: the youngest question that wants a query, and the query that is sent.
 use Rattle.std.proofs.Common.{◌≡◌, ℕ, ◌<◌, Bool, true, false, cond, not, ◌||◌, eqb, leb, List, [], ◌∷◌, ◌++◌, map, length, get_or, is_some, Some, None, Ok, Err, Option, Result, sym, refl, ap, ◌∙◌, arith}
-use lib.ListN.{length-map}
 use mathlib.Core.List.{map-append}
 use Rattle.std.specs.Option.{option_or, option_map}
 use Rattle.names.specs.declared.fault.Fault.{Fault}
 use Rattle.names.specs.declared.fault.Fault.TheVariants.{Malformed}
 use Rattle.protocol.specs.Lists.{first, any}
 use Rattle.machine.proofs.Standings.{wants_so, some_servers}
-use Rattle.std.proofs.lemmas.List.{get_or-map}
 use Rattle.std.proofs.lemmas.Bool.{cond-true, cond-false}
 use Rattle.protocol.specs.Words.{Name, Server}
 use Rattle.protocol.specs.World.{Rules, Entry, query_for}
@@ -60,14 +58,6 @@ not_waiting roots es (stands.Wants w) h = absurd (h w refl)
 pub wish_is : (r : Rules) (st : State) (u : Question) (k : ℕ) (s : machine.Standing) → k ≡ u.kind → s ≡ standing r st u → ◌≡◌ {A = Option (ℕ × machine.Standing)} (Some (k, s)) (Some (u.kind, standing r st u))
 wish_is r st u k s e f = λ i. Some (e i, f i)
 
--- the server at the place, of those that the code has
-pub sent : {X : Type 0} (n : ℕ) (a p : Name) (k now : ℕ) (o : Option Tried) (f : X → Server) (xs : List X) (ss : List Server) (i : ℕ) (d : X) → map f xs ≡ ss → i ≡ place_for n (length xs) o → i < length xs → ◌≡◌ {A = Pending} (record { query = query_for n (f (get_or xs i d)) a p k now; place = i }) (record { query = query_for n (get_or ss (place_for n (length ss) o) []) a p k now; place = place_for n (length ss) o })
-sent n a p k now o f xs ss i d e h l =
-    let same_length = sym (length-map xs f) ∙ ap length e in
-    let at : i ≡ place_for n (length ss) o = h ∙ ap (λ m. place_for n m o) same_length in
-    (λ j. record { query = query_for n ((sym (get_or-map f xs i d [] l) ∙ (λ g. get_or (e g) i [])) j) a p k now; place = i })
-    ∙ ap {B = Pending} (λ m. record { query = query_for n (get_or ss m []) a p k now; place = m }) at
-
 -- ---- the ways of a drawn id
 
 any_first : {A : Type 0} (test : A → Bool) (xs : List A) → any test xs ≡ is_some (first test xs)
@@ -83,8 +73,9 @@ some_mapped : {A B : Type 0} (f : A → B) (o : Option A) → is_some o ≡ is_s
 some_mapped f None = refl
 some_mapped f (Some x) = refl
 
-pub pending_if : {X : Type 0} (f : X → Pending) (n : ℕ) (ps : List Pending) (o : Option X) → option_map f o ≡ first (λ (x : Pending). eqb x.query.id n) ps → is_pending n ps ≡ is_some o
-pending_if f n ps o e = any_first (λ (x : Pending). eqb x.query.id n) ps ∙ sym (ap is_some e) ∙ sym (some_mapped f o)
+-- an id is pending or not, as was found
+pub pending_if : {X : Type 0} (f : X → Pending) (n : ℕ) (ps : List Pending) (o : Option X) (b : Bool) → option_map f o ≡ first (λ (x : Pending). eqb x.query.id n) ps → b ≡ is_some o → is_pending n ps ≡ b
+pending_if f n ps o b e told = any_first (λ (x : Pending). eqb x.query.id n) ps ∙ sym (ap is_some e) ∙ sym (some_mapped f o) ∙ sym told
 
 module _ (r : Rules) (n : ℕ) (st : State) where
   abbrev test : Question → Bool

@@ -13,17 +13,18 @@ use cache::{Cache, Key, Moment};
 use questions::{Pending, Question};
 use walks::{Ending, walk};
 
-// Whether a question's walk lacks the word of a query.
+// Whether a question's walk lacks the word of a query. Cache and moment go by themselves, since the resolver's walks are changed meanwhile.
 fn lacks_word(cache: &Cache, moment: Moment, question: &Question, pending: &Pending) -> bool
     ensures { result ≡ lacks_for (pending_of pending.now) (question_of question.now).kind (shown_by rules moment.0 (entries_of cache.now) (question_of question.now).name (question_of question.now).kind).end }
 {
     let request = question.request();
     match walk(cache, moment, &request.name, request.kind).ending {
-        Ending::Lacks(apex, name) => {
-            let kind = request.kind;
-            pending.is_for(&Key { apex, name, kind })
-        }
-        _ => false,
+        Ending::Lacks(apex, name) => pending.is_for(&Key {
+            apex,
+            name,
+            kind: request.kind,
+        }),
+        Ending::Shows(_) | Ending::TooLong => false,
     }
 }
 
@@ -36,7 +37,7 @@ fn count_for(cache: &Cache, moment: Moment, question: &mut Question, pending: &P
     }
 }
 
-// Counted for each of some questions.
+// The count of each of these questions.
 pub fn count_each(cache: &Cache, moment: Moment, walks: &mut [Question], pending: &Pending)
     ensures { map question_of walks.new ≡ map (count_by moment.0 (entries_of cache.now) (pending_of pending.now)) (map question_of walks.old) }
 {
@@ -50,7 +51,7 @@ impl Resolver {
         ensures state { state_of self.new ≡ with_walks (count_tries (rules_for self.old) (state_of self.old) (pending_of pending.now) (state_of self.old).walks) (state_of self.old) }
         ensures roots { roots_of self.new ≡ roots_of self.old }
     {
-        let moment = self.moment;
-        count_each(&self.cache, moment, self.walks.as_mut_slice(), pending);
+        let walks = self.walks.as_mut_slice();
+        count_each(&self.cache, self.moment, walks, pending);
     }
 }

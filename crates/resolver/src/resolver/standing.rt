@@ -13,7 +13,7 @@ ghost use Rattle.resolver.specs.Wishes.{WantsKind};
 
 use super::Resolver;
 use crate::answer::{Answer, Outcome, Standing, Wanted};
-use cache::{Entry, Key, Said};
+use cache::{Key, Said};
 use questions::{Pending, Question, Tried};
 use records::Address;
 use walks::{Ending, walk};
@@ -43,13 +43,9 @@ impl Resolver {
     pub fn servers_at(&self, referral: Option<usize>) -> &[Address]
         ensures { map bytes_of result.now ≡ servers_at (roots_of self.now) (entries_of self.now.cache) referral }
     {
-        match referral.and_then(|place| self.cache.get(place)) {
-            Some(
-                Entry {
-                    said: Said::Referral(referral),
-                    ..
-                },
-            ) => referral.to.servers.as_slice(),
+        let entry = referral.and_then(|place| self.cache.get(place));
+        match entry.map(|entry| &entry.said) {
+            Some(Said::Referral(referral)) => referral.to.servers.as_slice(),
             _ => self.roots.as_slice(),
         }
     }
@@ -61,8 +57,9 @@ impl Resolver {
     {
         let tried = question.tried(&key);
         let pending = self.pending.for_word(&key);
-        let last_is_pending = pending.is_some_and(|pending| is_last(tried, &pending));
-        if is_exhausted(self.servers_at(referral), tried) && !last_is_pending {
+        if is_exhausted(self.servers_at(referral), tried)
+            && !pending.is_some_and(|pending| is_last(tried, &pending))
+        {
             return Standing::Done(Outcome::NOWHERE);
         }
         match pending {

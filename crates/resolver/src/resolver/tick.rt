@@ -14,11 +14,10 @@ impl Resolver {
         ensures state { state_of self.new ≡ with_walks (count_all (rules_for self.old) (state_of self.old) (kept (λ x. not (is_open rules next.0 x)) (state_of self.old).pending) (state_of self.old).walks) (state_of self.old) }
         ensures roots { roots_of self.new ≡ roots_of self.old }
     {
-        let moment = self.moment;
         let walks = self.walks.as_mut_slice();
         for pending in self.pending.as_slice() {
             if !pending.is_open(next) {
-                count_each(&self.cache, moment, walks, pending);
+                count_each(&self.cache, self.moment, walks, pending);
             }
         }
     }

@@ -1,4 +1,4 @@
-use Rattle.std.proofs.Common.{None, sym, refl, ◌∙◌}
+use Rattle.std.proofs.Common.{None, sym, refl}
 use Rattle.names.specs.Names.{labels}
 use Rattle.cache.specs.Caches.{entries_of}
 use Rattle.questions.specs.Queries.{pending_of}
@@ -12,20 +12,20 @@ use Rattle.resolver.proofs.resolver.Resolver.draw.Goals as goal
 pub returns-then-is_some-clause-done : goal.returns-then-is_some-clause-done
 returns-then-is_some-clause-done c =
     let self = c.args.self.now in
-    let found = pending_if pending_of c.args.id.0 (table_of self.pending) c.by_id.result c.by_id.ensures in
-    (draw_refused (rules_for self) c.args.id.0 (state_of self) (found ∙ sym c.if-is_some.ensures), refl)
+    let found = pending_if pending_of c.args.id.0 (table_of self.pending) c.by_id.result _ c.by_id.ensures c.if-is_some.ensures in
+    (draw_refused (rules_for self) c.args.id.0 (state_of self) found, refl)
 
 pub returns-then-is_full-clause-done : goal.returns-then-is_full-clause-done
 returns-then-is_full-clause-done c =
     let self = c.args.self.now in
-    let found = pending_if pending_of c.args.id.0 (table_of self.pending) c.by_id.result c.by_id.ensures in
-    (record { state = state_of self; query = None }, draw_full (rules_for self) c.args.id.0 (state_of self) (found ∙ sym c.if-is_some.ensures) (sym c.if-is_full.ensures), refl, refl)
+    let found = pending_if pending_of c.args.id.0 (table_of self.pending) c.by_id.result _ c.by_id.ensures c.if-is_some.ensures in
+    (record { state = state_of self; query = None }, draw_full (rules_for self) c.args.id.0 (state_of self) found (sym c.if-is_full.ensures), refl, refl)
 
 pub returns-in_default-clause-done : goal.returns-in_default-clause-done
 returns-in_default-clause-done c =
     let self = c.args.self.now in
-    let found = pending_if pending_of c.args.id.0 (table_of self.pending) c.by_id.result c.by_id.ensures in
-    (record { state = state_of self; query = None }, draw_none (rules_for self) c.args.id.0 (state_of self) (found ∙ sym c.if-is_some.ensures) (sym c.if-is_full.ensures) c.in_default.ensures, refl, refl)
+    let found = pending_if pending_of c.args.id.0 (table_of self.pending) c.by_id.result _ c.by_id.ensures c.if-is_some.ensures in
+    (record { state = state_of self; query = None }, draw_none (rules_for self) c.args.id.0 (state_of self) found (sym c.if-is_full.ensures) c.in_default.ensures, refl, refl)
 
 pub query_for-pending-requires : goal.query_for-pending-requires
 query_for-pending-requires c =
@@ -38,9 +38,9 @@ returns-clause-done c =
     let self = c.args.self.now in
     let w = c.in-Some.wanted in
     let x = pending_of c.query_for-pending.result in
-    let found = pending_if pending_of c.args.id.0 (table_of self.pending) c.by_id.result c.by_id.ensures in (
+    let found = pending_if pending_of c.args.id.0 (table_of self.pending) c.by_id.result _ c.by_id.ensures c.if-is_some.ensures in (
       send (rules_for self) (state_of self) x,
-      draw_sends (rules_for self) c.args.id.0 (state_of self) w.key.kind.number (labels w.key.apex) (labels w.key.name) (servers_at (roots_of self) (entries_of self.cache) w.referral) (one_tried w.tried) c.in-Some.ensures x (found ∙ sym c.if-is_some.ensures) (sym c.if-is_full.ensures) c.query_for-pending.ensures,
+      draw_sends (rules_for self) c.args.id.0 (state_of self) w.key.kind.number (labels w.key.apex) (labels w.key.name) (servers_at (roots_of self) (entries_of self.cache) w.referral) (one_tried w.tried) c.in-Some.ensures x found (sym c.if-is_full.ensures) c.query_for-pending.ensures,
       added (rules_for self) (state_of self) x (state_of c.count_tries.new.self) (table_of c.add.new.self) c.add.result c.count_tries.ensures.state c.add.ensures.told c.add.ensures.table (sym c.if-is_full.ensures),
       refl,
     )
