@@ -1,3 +1,2 @@
-pub mod Wishes
 pub mod Resolvers
 pub mod Draws

@@ -1,5 +1,5 @@
 -- What the code's resolver stands for.
-use Rattle.std.specs.Prelude.{ℕ, List, [], map, vec_items, Option}
+use Rattle.std.specs.Prelude.{◌≡◌, ⊤, ℕ, List, [], map, vec_items, Option}
 use Rattle.std.specs.Option.{option_map}
 use Rattle.std.specs.List.{slice_get}
 use Rattle.names.specs.Names.{labels}
@@ -45,6 +45,12 @@ abbrev pub standing_for : List Server → List Entry → Standing → machine.St
 standing_for roots es (stands.Done x) = machine.Done (answer_for es x.answer) x.left
 standing_for roots es (stands.Awaits key) = machine.Awaits (labels key.apex) (labels key.name)
 standing_for roots es (stands.Wants w) = machine.Wants (labels w.key.apex) (labels w.key.name) (servers_at roots es w.referral) (one_tried w.tried)
+
+-- a query that is wanted is for this kind
+abbrev pub WantsKind : ℕ → Standing → Type 0
+WantsKind k (stands.Done x) = ⊤
+WantsKind k (stands.Awaits key) = ⊤
+WantsKind k (stands.Wants w) = w.key.kind.number ≡ k
 
 -- a query's try counted for a question, by what the cache has at a moment
 abbrev pub count_by : ℕ → List Entry → machine.Pending → machine.Question → machine.Question

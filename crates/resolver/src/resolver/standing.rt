@@ -8,8 +8,7 @@ ghost use Rattle.questions.specs.Tries.{question_of, tries_of, tried_for};
 ghost use Rattle.questions.specs.Queries.{pending_of};
 ghost use Rattle.questions.specs.Tables.{table_of};
 ghost use Rattle.walks.specs.Ways.{servers_at};
-ghost use Rattle.resolver.specs.Resolvers.{roots_of, rules_for, state_of, standing_for, one_tried};
-ghost use Rattle.resolver.specs.Wishes.{WantsKind};
+ghost use Rattle.resolver.specs.Resolvers.{roots_of, rules_for, state_of, standing_for, one_tried, WantsKind};
 
 use super::Resolver;
 use crate::answer::{Answer, Outcome, Standing, Wanted};
