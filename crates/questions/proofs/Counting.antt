@@ -1,12 +1,13 @@
 -- One more try, by the place of its word.
-use Rattle.std.proofs.Common.{◌≡◌, ℕ, ◌<◌, ◌≤◌, Bool, true, false, cond, not, eqb, ltb, leb, List, [], ◌∷◌, ◌++◌, map, length, get_or, set, sym, refl, ap, ◌∙◌, ltb-false, ltb-true, le-leb}
+use Rattle.std.proofs.Common.{◌≡◌, ℕ, ◌<◌, ◌≤◌, Bool, true, false, cond, not, eqb, leb, List, [], ◌∷◌, ◌++◌, map, length, get_or, set, is_some, Some, None, Option, true≢false, sym, refl, ap, ◌∙◌, le-leb}
 use borrow.Author.Tests.{lt-leb}
-use Rattle.std.proofs.lemmas.List.{map-set}
+use Rattle.std.proofs.lemmas.List.{map-set, get_or-map}
 use Rattle.std.proofs.lemmas.Bool.{cond-true, cond-false}
 use Rattle.protocol.specs.Words.{Name}
+use Rattle.machine.specs.Store.{place_of}
 use Rattle.machine.specs.Machine.{Tried, Question, count_up, is_word, tried_of, too_many, try_more}
 use Rattle.questions.specs.Tries.{tried_first, tried_again, with_tries, counted}
-use Rattle.questions.proofs.Finding.{Stands, at_head, behind, Lacks, at_end, past, first_stands, first_lacks, read_at}
+use Rattle.questions.proofs.Finding.{Stands, at_head, behind, Lacks, at_end, past, stands, lacks, first_stands, first_lacks}
 
 module _ (a p : Name) (at n : ℕ) where
   -- the last query's tries stay as they are
@@ -33,7 +34,7 @@ module _ (a p : Name) (at n : ℕ) where
 -- the element at a place, and what comes in its place
 module _ {X : Type 0} (f : X → Tried) (xs : List X) (at n i : ℕ) (x y : X) where
   pub counted_again : i < length xs → x ≡ get_or xs i x → f y ≡ tried_again at n (f x) → (d : Tried) → map f (set xs i y) ≡ set (map f xs) i (tried_again at n (get_or (map f xs) i d))
-  counted_again l e g d = map-set f xs i y ∙ ap (set (map f xs) i) (g ∙ ap (tried_again at n) (sym (read_at f xs i x d l e)))
+  counted_again l e g d = map-set f xs i y ∙ ap (set (map f xs) i) (g ∙ ap (tried_again at n) (sym (get_or-map f xs i x d l ∙ ap f (sym e))))
 
 -- ---- whether a word more may be used, and what counting leaves
 
@@ -44,12 +45,20 @@ module _ (a p : Name) (ts : List Tried) where
   pub none_usable : Lacks (is_word a p) ts → too_many (tried_of a p ts) ts ≡ leb 24 (length ts)
   none_usable s = ap (λ o. too_many o ts) (first_lacks (is_word a p) ts s)
 
-pub below_not : (m n : ℕ) → ltb m n ≡ not (leb n m)
-below_not m n = go (ltb m n) refl
-  where
-    go : (b : Bool) → ltb m n ≡ b → ltb m n ≡ not (leb n m)
-    go true h = h ∙ sym (ap not (lt-leb n m (ltb-true m n h)))
-    go false h = h ∙ sym (ap not (le-leb n m (ltb-false m n h)))
+  -- by whether its tries were found
+  pub usable : true ≡ is_some (place_of (is_word a p) ts) → true ≡ not (too_many (tried_of a p ts) ts)
+  usable = go (place_of (is_word a p) ts) refl
+    where
+      go : (o : Option ℕ) → o ≡ place_of (is_word a p) ts → true ≡ is_some o → true ≡ not (too_many (tried_of a p ts) ts)
+      go None e h = absurd (true≢false h)
+      go (Some i) e h = sym (ap not (some_usable i (tried_first a p 0 0) (stands (is_word a p) ts i e)))
+
+  pub unknown : false ≡ is_some (place_of (is_word a p) ts) → too_many (tried_of a p ts) ts ≡ leb 24 (length ts)
+  unknown = go (place_of (is_word a p) ts) refl
+    where
+      go : (o : Option ℕ) → o ≡ place_of (is_word a p) ts → false ≡ is_some o → too_many (tried_of a p ts) ts ≡ leb 24 (length ts)
+      go None e h = none_usable (lacks (is_word a p) ts e)
+      go (Some i) e h = absurd (true≢false (sym h))
 
 -- a question v after a try of u was counted
 module _ (a p : Name) (at n : ℕ) (u v : Question) where

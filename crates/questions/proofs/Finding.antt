@@ -1,12 +1,10 @@
--- The first element of a list that passes a test, and where it stands; what is left to look through gives the answer.
-use Rattle.std.proofs.Common.{◌≡◌, ℕ, suc, ◌+◌, ◌<◌, ◌≤◌, Bool, true, false, cond, List, [], ◌∷◌, map, length, get_or, drop, Some, None, Option, sym, refl, ap, ◌∙◌, subst, arith}
-use lib.ListN.{length-map}
-use Rattle.std.specs.List.{slice_get}
+-- The first element of a list that passes a test, where it stands, and those that pass: as a chain gives them, and as the machine says it.
+use Rattle.std.proofs.Common.{◌≡◌, ℕ, suc, ◌+◌, ◌<◌, Bool, true, false, cond, List, [], ◌∷◌, map, length, get_or, Some, None, Option, sym, refl, ap, ◌∙◌, subst, arith}
+use Rattle.std.specs.List.{find, filter, position, position_from}
 use Rattle.std.specs.Option.{option_map}
-use Rattle.std.proofs.lemmas.List.{drop_more, drop_all, get_or-map}
-use Rattle.std.proofs.lemmas.Option.{slice_get-get_or, slice_get_past}
+use Rattle.std.proofs.lemmas.Iterator.Adapters.{position_from-zero}
 use Rattle.std.proofs.lemmas.Bool.{cond-true, cond-false}
-use Rattle.protocol.specs.Lists.{first}
+use Rattle.protocol.specs.Lists.{first, kept}
 use Rattle.protocol.proofs.Lists.{first_here, first_there}
 use Rattle.machine.specs.Store.{place_of}
 
@@ -65,62 +63,52 @@ module _ {A : Type 0} (test : A → Bool) where
   first_lacks xs at_end = refl
   first_lacks xs (past x ys h s) = first_there test x ys h ∙ first_lacks ys s
 
--- ---- looked for from the start of a list on
+-- ---- what a chain over the code's elements gives, as what they stand for
 
-module _ {X Y : Type 0} (f : X → Y) (test : Y → Bool) (xs : List X) where
-  -- the answer lies in what is left
-  abbrev pub FirstFrom : ℕ → Type 0
-  FirstFrom i = first test (map f (drop i xs)) ≡ first test (map f xs)
+module _ {X Y : Type 0} (f : X → Y) (test : Y → Bool) where
+  abbrev by_test : X → Bool
+  by_test x = test (f x)
 
-  abbrev pub PlaceFrom : ℕ → Type 0
-  PlaceFrom i = option_map (λ j. i + j) (place_of test (map f (drop i xs))) ≡ place_of test (map f xs)
-
-  opened : (i : ℕ) (x : X) → i < length xs → x ≡ get_or xs i x → map f (drop i xs) ≡ f x ∷ map f (drop (i + 1) xs)
-  opened i x l e = ap (map f) (drop_more xs i x l) ∙ ap (λ y. f y ∷ map f (drop (i + 1) xs)) (sym e)
-
-  pub first_found : (i : ℕ) (x : X) → i < length xs → x ≡ get_or xs i x → true ≡ test (f x) → FirstFrom i → Some (f x) ≡ first test (map f xs)
-  first_found i x l e t h = sym (first_here test (f x) (map f (drop (i + 1) xs)) (sym t)) ∙ ap (first test) (sym (opened i x l e)) ∙ h
-
-  pub first_passed : (i : ℕ) (x : X) → i < length xs → x ≡ get_or xs i x → false ≡ test (f x) → FirstFrom i → FirstFrom (i + 1)
-  first_passed i x l e t h = sym (first_there test (f x) (map f (drop (i + 1) xs)) (sym t)) ∙ ap (first test) (sym (opened i x l e)) ∙ h
-
-  pub first_missed : (i : ℕ) → length xs ≤ i → FirstFrom i → None ≡ first test (map f xs)
+  pub first_of : (xs : List X) → option_map f (find by_test xs) ≡ first test (map f xs)
   unfolding first
-  first_missed i l h = sym (ap (λ ys. first test (map f ys)) (drop_all i xs l)) ∙ h
-
-  pub place_start : PlaceFrom 0
-  place_start = go (place_of test (map f xs))
+  first_of [] = refl
+  first_of (x ∷ xs) = go (test (f x)) refl (first_of xs)
     where
-      go : (o : Option ℕ) → option_map (λ j. 0 + j) o ≡ o
-      go None = refl
-      go (Some j) = ap Some (omega arith)
-
-  pub place_found : (i : ℕ) (x : X) → i < length xs → x ≡ get_or xs i x → true ≡ test (f x) → PlaceFrom i → Some i ≡ place_of test (map f xs)
-  place_found i x l e t h =
-      let z : i ≡ i + 0 = omega arith in
-      ap Some z ∙ sym (ap (option_map (λ j. i + j)) (ap (place_of test) (opened i x l e) ∙ place_here test (f x) (map f (drop (i + 1) xs)) (sym t))) ∙ h
+      go : (b : Bool) → test (f x) ≡ b → option_map f (find by_test xs) ≡ first test (map f xs) → option_map f (cond (test (f x)) (Some x) (find by_test xs)) ≡ cond (test (f x)) (Some (f x)) (first test (map f xs))
+      go true h ih = ap (λ b. option_map f (cond b (Some x) (find by_test xs))) h ∙ sym (ap (λ b. cond b (Some (f x)) (first test (map f xs))) h)
+      go false h ih = ap (λ b. option_map f (cond b (Some x) (find by_test xs))) h ∙ ih ∙ sym (ap (λ b. cond b (Some (f x)) (first test (map f xs))) h)
 
   shift : (i : ℕ) (o : Option ℕ) → option_map (λ j. i + 1 + j) o ≡ option_map (λ j. i + j) (option_map suc o)
   shift i None = refl
   shift i (Some j) = ap Some (omega arith)
 
-  pub place_passed : (i : ℕ) (x : X) → i < length xs → x ≡ get_or xs i x → false ≡ test (f x) → PlaceFrom i → PlaceFrom (i + 1)
-  place_passed i x l e t h =
-      shift i (place_of test (map f (drop (i + 1) xs)))
-      ∙ sym (ap (option_map (λ j. i + j)) (ap (place_of test) (opened i x l e) ∙ place_there test (f x) (map f (drop (i + 1) xs)) (sym t))) ∙ h
-
-  pub place_missed : (i : ℕ) → length xs ≤ i → PlaceFrom i → None ≡ place_of test (map f xs)
+  place_on : (i : ℕ) (xs : List X) → position_from by_test i xs ≡ option_map (λ j. i + j) (place_of test (map f xs))
   unfolding place_of
-  place_missed i l h = sym (ap (λ ys. option_map (λ j. i + j) (place_of test (map f ys))) (drop_all i xs l)) ∙ h
+  place_on i [] = refl
+  place_on i (x ∷ xs) = go (test (f x)) refl (place_on (i + 1) xs)
+    where
+      here : Bool → Option ℕ
+      here b = cond b (Some i) (position_from by_test (i + 1) xs)
 
--- ---- what the code reads, as what it stands for
+      there : Bool → Option ℕ
+      there b = option_map (λ j. i + j) (cond b (Some 0) (option_map suc (place_of test (map f xs))))
 
-module _ {X Y : Type 0} (f : X → Y) (xs : List X) where
-  pub read_at : (i : ℕ) (x : X) (d : Y) → i < length xs → x ≡ get_or xs i x → get_or (map f xs) i d ≡ f x
-  read_at i x d l e = get_or-map f xs i x d l ∙ ap f (sym e)
+      go : (b : Bool) → test (f x) ≡ b → position_from by_test (i + 1) xs ≡ option_map (λ j. i + 1 + j) (place_of test (map f xs)) → here (test (f x)) ≡ there (test (f x))
+      go true h ih = let z : i ≡ i + 0 = omega arith in ap here h ∙ ap Some z ∙ sym (ap there h)
+      go false h ih = ap here h ∙ ih ∙ shift i (place_of test (map f xs)) ∙ sym (ap there h)
 
-  pub got : (i : ℕ) (x : X) → i < length xs → x ≡ get_or xs i x → Some (f x) ≡ slice_get (map f xs) i
-  got i x l e = let h = length-map xs f in sym (slice_get-get_or (map f xs) i (f x) (omega arith) ∙ ap Some (read_at i x (f x) l e))
+  pub place_in : (xs : List X) → position by_test xs ≡ place_of test (map f xs)
+  place_in xs = position_from-zero by_test xs ∙ place_on 0 xs ∙ go (place_of test (map f xs))
+    where
+      go : (o : Option ℕ) → option_map (λ j. 0 + j) o ≡ o
+      go None = refl
+      go (Some j) = ap Some (omega arith)
 
-  pub got_none : (i : ℕ) → length xs ≤ i → None ≡ slice_get (map f xs) i
-  got_none i l = let h = length-map xs f in sym (slice_get_past (map f xs) i (omega arith))
+  pub kept_of : (xs : List X) → map f (filter by_test xs) ≡ kept test (map f xs)
+  unfolding kept
+  kept_of [] = refl
+  kept_of (x ∷ xs) = go (test (f x)) refl (kept_of xs)
+    where
+      go : (b : Bool) → test (f x) ≡ b → map f (filter by_test xs) ≡ kept test (map f xs) → map f (cond (test (f x)) (x ∷ filter by_test xs) (filter by_test xs)) ≡ cond (test (f x)) (f x ∷ kept test (map f xs)) (kept test (map f xs))
+      go true h ih = ap (λ b. map f (cond b (x ∷ filter by_test xs) (filter by_test xs))) h ∙ ap (λ ys. f x ∷ ys) ih ∙ sym (ap (λ b. cond b (f x ∷ kept test (map f xs)) (kept test (map f xs))) h)
+      go false h ih = ap (λ b. map f (cond b (x ∷ filter by_test xs) (filter by_test xs))) h ∙ ih ∙ sym (ap (λ b. cond b (f x ∷ kept test (map f xs)) (kept test (map f xs))) h)

@@ -1,3 +1,3 @@
 mod Finding
 mod Counting
-mod Keeping
+pub mod Writing

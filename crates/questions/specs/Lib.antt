@@ -1,4 +1,4 @@
+pub mod Lends
 pub mod Tries
 pub mod Queries
-pub mod Rules
 pub mod Tables

@@ -1,5 +1,5 @@
 -- What tries and questions stand for.
-use Rattle.std.specs.Prelude.{ℕ, cond, List, map, vec_items, ◌==◌}
+use Rattle.std.specs.Prelude.{ℕ, cond, List, map, ◌==◌}
 use Rattle.names.specs.Names.{labels}
 use Rattle.protocol.specs.Words.{Name}
 use Rattle.machine.specs.Machine as machine
@@ -8,13 +8,13 @@ use Rattle.questions.specs.declared.tried.Tried.{Tried}
 use Rattle.questions.specs.declared.question.Question.{Question}
 
 abbrev pub tried_for : Tried → machine.Tried
-tried_for t = record { apex = labels t.apex; name = labels t.name; count = t.count; place = t.place; id = t.id.0 }
+tried_for t = record { apex = labels t.key.apex; name = labels t.key.name; count = t.count; place = t.place; id = t.id.0 }
 
 abbrev pub tries_of : Question → List machine.Tried
-tries_of q = map tried_for (vec_items q.tries)
+tries_of q = map tried_for q.tries
 
 abbrev pub question_of : Question → machine.Question
-question_of q = record { ticket = q.ticket; name = labels q.name; kind = q.kind.number; tries = tries_of q }
+question_of q = record { ticket = q.request.ticket; name = labels q.request.name; kind = q.request.kind.number; tries = tries_of q }
 
 abbrev pub with_tries : List machine.Tried → machine.Question → machine.Question
 with_tries ts u = record { ticket = u.ticket; name = u.name; kind = u.kind; tries = ts }

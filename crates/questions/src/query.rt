@@ -1,7 +1,6 @@
 // A query that was sent, and what is kept of it while it is pending.
-use cache::{Moment, QueryId};
-use names::Name;
-use records::{Address, Kind};
+use cache::{Key, Moment, QueryId};
+use records::Address;
 
 pub mod matching;
 
@@ -10,9 +9,7 @@ pub struct Query {
     pub id: QueryId,
     pub server: Address,
     // The zone that is asked, and for what.
-    pub apex: Name,
-    pub name: Name,
-    pub kind: Kind,
+    pub key: Key,
     pub asked: Moment,
 }
 

@@ -1,6 +1,5 @@
 // A question under way: what was asked, and the tries for each word that it needed.
-ghost use Rattle.std.specs.Prelude.{◌≤◌, vec_len, vec_capacity};
-
+use crate::bounded::Bounded;
 use crate::tried::Tried;
 use names::Name;
 use records::Kind;
@@ -11,13 +10,16 @@ pub mod tries;
 // The most words that a question may need.
 pub const MAX_WORDS: usize = 24;
 
-// Room for all words is made at first, so counting a try never fails for memory.
+// What is asked, and the ticket under which the answer is shown.
+#[derive(Clone, Copy)]
+pub struct Request {
+    pub ticket: u64,
+    pub name: Name,
+    pub kind: Kind,
+}
+
 #[derive(Drop)]
 pub struct Question {
-    ticket: u64,
-    name: Name,
-    kind: Kind,
-    tries: Vec<Tried>,
-    ghost few: { vec_len tries ≤ 24 },
-    ghost room: { 24 ≤ vec_capacity tries },
+    request: Request,
+    tries: Bounded<Tried, MAX_WORDS>,
 }

@@ -1,6 +1,5 @@
 // How often a word was asked for on behalf of a question.
-use cache::QueryId;
-use names::Name;
+use cache::{Key, QueryId};
 
 pub mod counting;
 
@@ -9,9 +8,8 @@ pub const MOST_COUNTED: u8 = 64;
 
 #[derive(Clone, Copy)]
 pub struct Tried {
-    // The word: the zone that was asked, and for which name.
-    pub apex: Name,
-    pub name: Name,
+    // The word: the zone that was asked, and for which name; its kind is the question's.
+    pub key: Key,
     pub count: u8,
     // The place of the last server among those named, and the last query.
     pub place: usize,

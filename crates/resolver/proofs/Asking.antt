@@ -1,5 +1,5 @@
 -- Questions that begin, and those that are done.
-use Rattle.std.proofs.Common.{◌≡◌, ℕ, ◌+◌, ◌<◌, ◌≤◌, leb, List, [], ◌∷◌, ◌++◌, map, length, get_or, take, drop, Some, None, sym, refl, ap, ◌∙◌, append_assoc, append-nil}
+use Rattle.std.proofs.Common.{◌≡◌, ℕ, suc, ◌+◌, ◌<◌, ◌≤◌, leb, List, [], ◌∷◌, ◌++◌, map, length, get_or, take, drop, remove, Some, None, sym, refl, ap, ◌∙◌, append_assoc, append-nil, arith}
 use mathlib.Core.List.{map-append}
 use Rattle.std.proofs.lemmas.List.{get_or-map, take-map, drop-map, drop_more, drop_all, take_more, take_all}
 use Rattle.std.proofs.lemmas.Bool.{cond-true, cond-false, le-leb, lt-leb}
@@ -7,7 +7,7 @@ use Rattle.protocol.specs.Words.{Server}
 use Rattle.protocol.specs.World.{Rules, Entry}
 use Rattle.machine.specs.Machine as machine
 use Rattle.machine.specs.Machine.{Question, State, Nowhere, Shown, shown_as, Done, Awaits, Wants, standing, with_walks, Began, begin_by, begin, is_done, Settled, settle_on, settle_in}
-use Rattle.resolver.specs.declared.answer.Answer.{Answer}
+use Rattle.resolver.specs.declared.answer.Outcome.{Outcome}
 use Rattle.resolver.specs.declared.answer.Standing.{Standing}
 use Rattle.resolver.specs.declared.answer.Standing.TheVariants as stands
 use Rattle.resolver.specs.Resolvers.{standing_for}
@@ -25,9 +25,9 @@ module _ (r : Rules) (st : State) (u : Question) where
   done_at_once x n l e = begun l ∙ ap (begin_by u st) (sym e)
 
   module _ (roots : List Server) (es : List Entry) where
-    pub under_way : (x : Standing) → length st.walks < 16 → standing_for roots es x ≡ standing r st u → ((a : Answer) (n : ℕ) → x ≡ stands.Done a n → ⊥) → begin r u st ≡ record { state = with_walks (st.walks ++ (u ∷ [])) st; shown = None }
-    under_way (stands.Done a n) l e h = absurd (h a n refl)
-    under_way (stands.Awaits a p) l e h = begun l ∙ ap (begin_by u st) (sym e)
+    pub under_way : (x : Standing) → length st.walks < 16 → standing_for roots es x ≡ standing r st u → ((o : Outcome) → x ≡ stands.Done o → ⊥) → begin r u st ≡ record { state = with_walks (st.walks ++ (u ∷ [])) st; shown = None }
+    under_way (stands.Done o) l e h = absurd (h o refl)
+    under_way (stands.Awaits key) l e h = begun l ∙ ap (begin_by u st) (sym e)
     under_way (stands.Wants w) l e h = begun l ∙ ap (begin_by u st) (sym e)
 
 -- ---- the first that is done
@@ -48,9 +48,6 @@ module _ (r : Rules) (st : State) where
   -- none of the first so many is done: what is left is settled behind them
   abbrev pub NoneDone : List Question → ℕ → Type 0
   NoneDone us i = settle_in r st us ≡ record { walks = take i us ++ (settle_in r st (drop i us)).walks; shown = (settle_in r st (drop i us)).shown }
-
-  pub none_yet : (us : List Question) → NoneDone us 0
-  none_yet us = refl
 
   split_at : (us : List Question) (i : ℕ) (u : Question) → i < length us → u ≡ get_or us i u → drop i us ≡ u ∷ drop (i + 1) us
   split_at us i u l e = drop_more us i u l ∙ ap (λ x. x ∷ drop (i + 1) us) (sym e)
@@ -89,14 +86,16 @@ module _ (r : Rules) (st : State) where
       all = append-nil (take i us) ∙ take_all i us l
 
 -- a standing of the code's that is not done is none of the machine's
-pub not_done : (roots : List Server) (es : List Entry) (x : Standing) → ((a : Answer) (n : ℕ) → x ≡ stands.Done a n → ⊥) → is_done (standing_for roots es x) ≡ None
-not_done roots es (stands.Done a n) h = absurd (h a n refl)
-not_done roots es (stands.Awaits a p) h = refl
+pub not_done : (roots : List Server) (es : List Entry) (x : Standing) → ((o : Outcome) → x ≡ stands.Done o → ⊥) → is_done (standing_for roots es x) ≡ None
+not_done roots es (stands.Done o) h = absurd (h o refl)
+not_done roots es (stands.Awaits key) h = refl
 not_done roots es (stands.Wants w) h = refl
 
 -- an element that the code reads, in the list of what the elements stand for
 pub read_at : {X Y : Type 0} (f : X → Y) (xs : List X) (i : ℕ) (x : X) → i < length xs → x ≡ get_or xs i x → (d : Y) → f x ≡ get_or (map f xs) i d
 read_at f xs i x l e d = ap f e ∙ sym (get_or-map f xs i x d l)
 
-pub without : {X Y : Type 0} (f : X → Y) (xs : List X) (i : ℕ) → map f (take i xs ++ drop (i + 1) xs) ≡ take i (map f xs) ++ drop (i + 1) (map f xs)
-without f xs i = map-append f (take i xs) (drop (i + 1) xs) ∙ (λ j. sym (take-map f i xs) j ++ sym (drop-map f (i + 1) xs) j)
+pub without : {X Y : Type 0} (f : X → Y) (xs : List X) (i : ℕ) → map f (remove xs i) ≡ take i (map f xs) ++ drop (i + 1) (map f xs)
+without f xs i =
+    let next : suc i ≡ i + 1 = omega arith in
+    map-append f (take i xs) (drop (suc i) xs) ∙ (λ j. sym (take-map f i xs) j ++ sym (drop-map f (suc i) xs) j) ∙ ap (λ n. take i (map f xs) ++ drop n (map f xs)) next

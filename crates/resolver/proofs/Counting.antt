@@ -1,6 +1,5 @@
 -- A loop over elements in place, by what they stand for.
-use Rattle.std.proofs.Common.{◌≡◌, ℕ, zero, suc, ◌+◌, ◌<◌, ◌≤◌, List, [], ◌∷◌, ◌++◌, map, length, get_or, take, drop, set, refl, ap, ◌∙◌, subst, append-nil, arith}
-use Rattle.std.proofs.lemmas.List.{take_all, drop_all}
+use Rattle.std.proofs.Common.{◌≡◌, ℕ, zero, suc, ◌+◌, ◌<◌, List, [], ◌∷◌, ◌++◌, map, length, get_or, take, drop, set, ap, ◌∙◌, subst, arith}
 
 first_is : {A : Type 0} (a b : A) (xs ys : List A) → a ∷ xs ≡ b ∷ ys → a ≡ b
 first_is a b xs ys q = cc
@@ -12,9 +11,6 @@ module _ {X Y : Type 0} (f : X → Y) (g : Y → Y) where
   -- of the elements before, those so far are changed
   abbrev pub Changed : List X → List X → ℕ → Type 0
   Changed xs ys i = map f ys ≡ map g (map f (take i xs)) ++ map f (drop i xs)
-
-  pub none_changed : (xs : List X) → Changed xs xs 0
-  none_changed xs = refl
 
   one_changed : (xs ys : List X) (i : ℕ) (x y : X) → i < length xs → length ys ≡ length xs → Changed xs ys i → x ≡ get_or ys i x → f y ≡ g (f x) → Changed xs (set ys i y) (suc i)
   one_changed [] ys i x y l k h e r = absurd (omega arith)
@@ -28,6 +24,3 @@ module _ {X Y : Type 0} (f : X → Y) (g : Y → Y) where
 
   pub next_changed : (xs ys : List X) (i : ℕ) (x y : X) → i < length xs → length ys ≡ length xs → Changed xs ys i → x ≡ get_or ys i x → f y ≡ g (f x) → Changed xs (set ys i y) (i + 1)
   next_changed xs ys i x y l k h e r = subst (Changed xs (set ys i y)) (let n : suc i ≡ i + 1 = omega arith in n) (one_changed xs ys i x y l k h e r)
-
-  pub all_changed : (xs ys : List X) (i : ℕ) → length xs ≤ i → Changed xs ys i → map f ys ≡ map g (map f xs)
-  all_changed xs ys i l h = h ∙ (λ j. map g (map f (take_all i xs l j)) ++ map f (drop_all i xs l j)) ∙ append-nil (map g (map f xs))

@@ -1,12 +1,11 @@
 -- A drawn id: the youngest question that wants a query, and the query that is sent.
-use Rattle.std.proofs.Common.{◌≡◌, ℕ, ◌+◌, ◌-◌, ◌<◌, ◌≤◌, Bool, true, false, cond, not, ◌||◌, eqb, leb, List, [], ◌∷◌, ◌++◌, map, length, get_or, take, drop, is_some, Some, None, Ok, Err, Option, Result, sym, refl, ap, ◌∙◌, arith}
-use lib.ListN.{length-map}
+use Rattle.std.proofs.Common.{◌≡◌, ℕ, ◌<◌, Bool, true, false, cond, not, ◌||◌, eqb, leb, List, [], ◌∷◌, ◌++◌, map, length, get_or, is_some, Some, None, Ok, Err, Option, Result, sym, refl, ap, ◌∙◌, arith}
+use mathlib.Core.List.{map-append}
 use Rattle.std.specs.Option.{option_or, option_map}
 use Rattle.names.specs.declared.fault.Fault.{Fault}
 use Rattle.names.specs.declared.fault.Fault.TheVariants.{Malformed}
 use Rattle.protocol.specs.Lists.{first, any}
 use Rattle.machine.proofs.Standings.{wants_so, some_servers}
-use Rattle.std.proofs.lemmas.List.{get_or-map, drop_more, drop_all, take-append-drop}
 use Rattle.std.proofs.lemmas.Bool.{cond-true, cond-false}
 use Rattle.protocol.specs.Words.{Name, Server}
 use Rattle.protocol.specs.World.{Rules, Entry, query_for}
@@ -18,62 +17,46 @@ use Rattle.resolver.specs.declared.answer.Wanted.{Wanted}
 use Rattle.resolver.specs.Resolvers.{standing_for}
 
 module _ {A : Type 0} (test : A → Bool) where
-  last_nil : last_of test [] ≡ None
+  abbrev passing : A → Option A
+  passing x = cond (test x) (Some x) None
+
+  or_none : (o : Option A) → o ≡ option_or o None
+  or_none None = refl
+  or_none (Some x) = refl
+
+  or_or : (o p q : Option A) → option_or (option_or o p) q ≡ option_or o (option_or p q)
+  or_or None p q = refl
+  or_or (Some x) p q = refl
+
+  -- the last element is looked at first
+  last_push : (xs : List A) (x : A) → last_of test (xs ++ (x ∷ [])) ≡ option_or (passing x) (last_of test xs)
   unfolding last_of
-  last_nil = refl
+  last_push [] x = or_none (passing x)
+  last_push (y ∷ ys) x = ap (λ o. option_or o (passing y)) (last_push ys x) ∙ or_or (passing x) (last_of test ys) (passing y)
 
-  last_cons : (x : A) (xs : List A) → last_of test (x ∷ xs) ≡ option_or (last_of test xs) (cond (test x) (Some x) None)
+  pub none_left : {X : Type 0} (f : X → A) (xs : List X) → length xs ≡ 0 → last_of test (map f xs) ≡ None
   unfolding last_of
-  last_cons x xs = refl
+  none_left f [] e = refl
+  none_left f (x ∷ xs) e = absurd (omega arith)
 
-  other_some : (o : Option A) (p : Option A) (x : A) → p ≡ Some x → option_or p o ≡ Some x
-  other_some o p x e = ap (λ q. option_or q o) e
+  module _ {X : Type 0} (f : X → A) (xs ys : List X) (x : X) (split : xs ≡ ys ++ (x ∷ [])) where
+    seen : last_of test (map f xs) ≡ option_or (passing (f x)) (last_of test (map f ys))
+    seen = ap (λ zs. last_of test (map f zs)) split ∙ ap (last_of test) (map-append f ys (x ∷ [])) ∙ last_push (map f ys) (f x)
 
-  last_behind : (xs ys : List A) (x : A) → last_of test ys ≡ Some x → last_of test (xs ++ ys) ≡ Some x
-  last_behind [] ys x e = e
-  last_behind (y ∷ xs) ys x e = last_cons y (xs ++ ys) ∙ other_some (cond (test y) (Some y) None) (last_of test (xs ++ ys)) x (last_behind xs ys x e)
+    pub not_this : test (f x) ≡ false → last_of test (map f xs) ≡ last_of test (map f ys)
+    not_this t = seen ∙ ap (λ o. option_or o (last_of test (map f ys))) (cond-false (test (f x)) (Some (f x)) None t)
 
-  -- none from a place on
-  abbrev pub NoneFrom : List A → ℕ → Type 0
-  NoneFrom xs i = last_of test (drop i xs) ≡ None
-
-  pub none_from_end : (xs : List A) (i : ℕ) → length xs ≤ i → NoneFrom xs i
-  none_from_end xs i l = ap (last_of test) (drop_all i xs l) ∙ last_nil
-
-  split : (xs : List A) (i : ℕ) (x : A) → 0 < i → i - 1 < length xs → x ≡ get_or xs (i - 1) x → drop (i - 1) xs ≡ x ∷ drop i xs
-  split xs i x p l e = drop_more xs (i - 1) x l ∙ (λ j. sym e j ∷ drop (n j) xs)
-    where
-      n : i - 1 + 1 ≡ i
-      n = omega arith
-
-  pub not_this : (xs : List A) (i : ℕ) (x : A) → 0 < i → i - 1 < length xs → x ≡ get_or xs (i - 1) x → test x ≡ false → NoneFrom xs i → NoneFrom xs (i - 1)
-  not_this xs i x p l e t h = ap (last_of test) (split xs i x p l e) ∙ last_cons x (drop i xs) ∙ (λ j. option_or (h j) (cond (test x) (Some x) None)) ∙ cond-false (test x) (Some x) None t
-
-  pub this_one : (xs : List A) (i : ℕ) (x : A) → 0 < i → i - 1 < length xs → x ≡ get_or xs (i - 1) x → test x ≡ true → NoneFrom xs i → last_of test xs ≡ Some x
-  this_one xs i x p l e t h =
-      ap (last_of test) (sym (take-append-drop (i - 1) xs))
-      ∙ last_behind (take (i - 1) xs) (drop (i - 1) xs) x
-      (ap (last_of test) (split xs i x p l e) ∙ last_cons x (drop i xs) ∙ (λ j. option_or (h j) (cond (test x) (Some x) None)) ∙ cond-true (test x) (Some x) None t)
-
-  pub none_at_all : (xs : List A) (i : ℕ) → i ≡ 0 → NoneFrom xs i → last_of test xs ≡ None
-  none_at_all xs i e h = sym (ap (λ n. last_of test (drop n xs)) e) ∙ h
+    pub this_one : test (f x) ≡ true → last_of test (map f xs) ≡ Some (f x)
+    this_one t = seen ∙ ap (λ o. option_or o (last_of test (map f ys))) (cond-true (test (f x)) (Some (f x)) None t)
 
 -- a standing of the code's that wants nothing is none of the machine's that does
 pub not_waiting : (roots : List Server) (es : List Entry) (x : Standing) → ((w : Wanted) → x ≡ stands.Wants w → ⊥) → is_waiting (standing_for roots es x) ≡ false
-not_waiting roots es (stands.Done a n) h = refl
-not_waiting roots es (stands.Awaits a p) h = refl
+not_waiting roots es (stands.Done o) h = refl
+not_waiting roots es (stands.Awaits key) h = refl
 not_waiting roots es (stands.Wants w) h = absurd (h w refl)
 
 pub wish_is : (r : Rules) (st : State) (u : Question) (k : ℕ) (s : machine.Standing) → k ≡ u.kind → s ≡ standing r st u → ◌≡◌ {A = Option (ℕ × machine.Standing)} (Some (k, s)) (Some (u.kind, standing r st u))
 wish_is r st u k s e f = λ i. Some (e i, f i)
-
--- the server at the place, of those that the code has
-pub sent : {X : Type 0} (n : ℕ) (a p : Name) (k now : ℕ) (o : Option Tried) (f : X → Server) (xs : List X) (ss : List Server) (i : ℕ) (d : X) → map f xs ≡ ss → i ≡ place_for n (length xs) o → i < length xs → ◌≡◌ {A = Pending} (record { query = query_for n (f (get_or xs i d)) a p k now; place = i }) (record { query = query_for n (get_or ss (place_for n (length ss) o) []) a p k now; place = place_for n (length ss) o })
-sent n a p k now o f xs ss i d e h l =
-    let same_length = sym (length-map xs f) ∙ ap length e in
-    let at : i ≡ place_for n (length ss) o = h ∙ ap (λ m. place_for n m o) same_length in
-    (λ j. record { query = query_for n ((sym (get_or-map f xs i d [] l) ∙ (λ g. get_or (e g) i [])) j) a p k now; place = i })
-    ∙ ap {B = Pending} (λ m. record { query = query_for n (get_or ss m []) a p k now; place = m }) at
 
 -- ---- the ways of a drawn id
 
@@ -90,8 +73,9 @@ some_mapped : {A B : Type 0} (f : A → B) (o : Option A) → is_some o ≡ is_s
 some_mapped f None = refl
 some_mapped f (Some x) = refl
 
-pub pending_if : {X : Type 0} (f : X → Pending) (n : ℕ) (ps : List Pending) (o : Option X) → option_map f o ≡ first (λ (x : Pending). eqb x.query.id n) ps → is_pending n ps ≡ is_some o
-pending_if f n ps o e = any_first (λ (x : Pending). eqb x.query.id n) ps ∙ sym (ap is_some e) ∙ sym (some_mapped f o)
+-- an id is pending or not, as was found
+pub pending_if : {X : Type 0} (f : X → Pending) (n : ℕ) (ps : List Pending) (o : Option X) (b : Bool) → option_map f o ≡ first (λ (x : Pending). eqb x.query.id n) ps → b ≡ is_some o → is_pending n ps ≡ b
+pending_if f n ps o b e told = any_first (λ (x : Pending). eqb x.query.id n) ps ∙ sym (ap is_some e) ∙ sym (some_mapped f o) ∙ sym told
 
 module _ (r : Rules) (n : ℕ) (st : State) where
   abbrev test : Question → Bool

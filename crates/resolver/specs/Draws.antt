@@ -9,15 +9,15 @@ use Rattle.machine.specs.Machine.{State, Sent, last_of, is_waiting, standing}
 use Rattle.questions.specs.declared.query.Query.{Query}
 use Rattle.questions.specs.Queries.{query_of}
 use Rattle.resolver.specs.declared.answer.Standing.TheVariants as stands
-use Rattle.resolver.specs.declared.answer.Wish.{Wish}
+use Rattle.resolver.specs.declared.answer.Wanted.{Wanted}
 use Rattle.resolver.specs.Resolvers.{standing_for}
 
 -- the youngest question that wants a query: its kind, and how it stands
 abbrev pub wanting : Rules → State → Option (ℕ × machine.Standing)
 wanting r st = option_map (λ (u : machine.Question). (u.kind, standing r st u)) (last_of (λ u. is_waiting (standing r st u)) st.walks)
 
-abbrev pub wanting_for : List Server → List Entry → Option Wish → Option (ℕ × machine.Standing)
-wanting_for roots es o = option_map (λ (p : Wish). (p.kind.number, standing_for roots es (stands.Wants p.wanted))) o
+abbrev pub wanting_for : List Server → List Entry → Option Wanted → Option (ℕ × machine.Standing)
+wanting_for roots es o = option_map (λ (w : Wanted). (w.key.kind.number, standing_for roots es (stands.Wants w))) o
 
 -- what is due is done, and what was sent is told; a refusal leaves all as it was
 abbrev pub Draws : Result Sent Fault → State → Result (Option Query) Fault → State → Type 0

@@ -1,5 +1,5 @@
 -- What the code's resolver stands for.
-use Rattle.std.specs.Prelude.{ℕ, cond, List, [], map, Some, None, vec_items, Option}
+use Rattle.std.specs.Prelude.{◌≡◌, ⊤, ℕ, List, [], map, vec_items, Option}
 use Rattle.std.specs.Option.{option_map}
 use Rattle.std.specs.List.{slice_get}
 use Rattle.names.specs.Names.{labels}
@@ -27,7 +27,7 @@ abbrev pub rules_for : Resolver → Rules
 rules_for x = rules_of (roots_of x)
 
 abbrev pub state_of : Resolver → machine.State
-state_of x = record { now = x.moment.0; pending = table_of x.pending; cache = entries_of x.cache; walks = map question_of (vec_items x.walks) }
+state_of x = record { now = x.moment.0; pending = table_of x.pending; cache = entries_of x.cache; walks = map question_of x.walks }
 
 abbrev pub one_tried : Option Tried → Option machine.Tried
 one_tried o = option_map tried_for o
@@ -39,18 +39,19 @@ answer_for es rust.TooLong = machine.Endless
 answer_for es rust.Nowhere = machine.Nowhere
 
 abbrev pub shown_for : List Entry → declared.Shown → machine.Shown
-shown_for es s = record { ticket = s.ticket; name = labels s.name; kind = s.kind.number; answer = answer_for es s.answer; left = s.left }
+shown_for es s = record { ticket = s.request.ticket; name = labels s.request.name; kind = s.request.kind.number; answer = answer_for es s.outcome.answer; left = s.outcome.left }
 
 abbrev pub standing_for : List Server → List Entry → Standing → machine.Standing
-standing_for roots es (stands.Done x n) = machine.Done (answer_for es x) n
-standing_for roots es (stands.Awaits a p) = machine.Awaits (labels a) (labels p)
-standing_for roots es (stands.Wants w) = machine.Wants (labels w.apex) (labels w.name) (servers_at roots es w.referral) (one_tried w.tried)
+standing_for roots es (stands.Done x) = machine.Done (answer_for es x.answer) x.left
+standing_for roots es (stands.Awaits key) = machine.Awaits (labels key.apex) (labels key.name)
+standing_for roots es (stands.Wants w) = machine.Wants (labels w.key.apex) (labels w.key.name) (servers_at roots es w.referral) (one_tried w.tried)
+
+-- a query that is wanted is for this kind
+abbrev pub WantsKind : ℕ → Standing → Type 0
+WantsKind k (stands.Done x) = ⊤
+WantsKind k (stands.Awaits key) = ⊤
+WantsKind k (stands.Wants w) = w.key.kind.number ≡ k
 
 -- a query's try counted for a question, by what the cache has at a moment
 abbrev pub count_by : ℕ → List Entry → machine.Pending → machine.Question → machine.Question
 count_by now es x u = machine.count_try rules (record { now = now; pending = []; cache = es; walks = [] }) x u
-
--- a query that runs out before a moment, counted
-abbrev pub counted_at : Rules → ℕ → Option machine.Pending → machine.State → machine.State
-counted_at r next None st = st
-counted_at r next (Some x) st = cond (machine.is_open rules next x) st (machine.with_walks (machine.count_tries r st x st.walks) st)

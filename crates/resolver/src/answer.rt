@@ -1,7 +1,6 @@
 // What is shown of a question, and where one stands.
-use names::Name;
-use questions::Tried;
-use records::Kind;
+use cache::Key;
+use questions::{Request, Tried};
 
 #[derive(Clone, Copy)]
 pub enum Answer {
@@ -13,34 +12,36 @@ pub enum Answer {
 }
 
 #[derive(Clone, Copy)]
-pub struct Shown {
-    pub ticket: u64,
-    pub name: Name,
-    pub kind: Kind,
+pub struct Outcome {
     pub answer: Answer,
     // For how many seconds it may be remembered.
     pub left: u128,
 }
 
+#[derive(Clone, Copy)]
+pub struct Shown {
+    pub request: Request,
+    pub outcome: Outcome,
+}
+
 // A query that a question wants: the word, the place of the referral that names the servers, and the tries so far.
 #[derive(Clone, Copy)]
 pub struct Wanted {
-    pub apex: Name,
-    pub name: Name,
+    pub key: Key,
     pub referral: Option<usize>,
     pub tried: Option<Tried>,
 }
 
-// What a question of some kind wants.
-#[derive(Clone, Copy)]
-pub struct Wish {
-    pub kind: Kind,
-    pub wanted: Wanted,
-}
-
 #[derive(Clone, Copy)]
 pub enum Standing {
-    Done(Answer, u128),
-    Awaits(Name, Name),
+    Done(Outcome),
+    Awaits(Key),
     Wants(Wanted),
+}
+
+impl Outcome {
+    pub const NOWHERE: Outcome = Outcome {
+        answer: Answer::Nowhere,
+        left: 0,
+    };
 }

@@ -4,5 +4,5 @@
 mod answer;
 mod resolver;
 
-pub use answer::{Answer, Shown};
+pub use answer::{Answer, Outcome, Shown};
 pub use resolver::{MAX_WALKS, Resolver};

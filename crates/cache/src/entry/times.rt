@@ -21,7 +21,7 @@ fn is_same(a: &Name, b: &Name) -> bool
 }
 
 impl Key {
-    fn has_names_of(&self, other: &Key) -> bool
+    pub fn has_names_of(&self, other: &Key) -> bool
         ensures { result ≡ (same (labels self.now.apex) (labels other.now.apex) && same (labels self.now.name) (labels other.now.name)) }
     {
         is_same(&self.apex, &other.apex) && is_same(&self.name, &other.name)

@@ -6,10 +6,7 @@ ghost use Rattle.cache.specs.Entries.{rules};
 ghost use Rattle.questions.specs.Queries.{pending_of};
 
 use super::Pending;
-use crate::naming::same_name;
-use cache::{Moment, QueryId};
-use names::Name;
-use records::Kind;
+use cache::{Key, Moment, QueryId};
 
 // For how many seconds a query is pending.
 pub const PATIENCE: u64 = 5;
@@ -18,21 +15,19 @@ impl Pending {
     pub fn has_id(&self, id: QueryId) -> bool
         ensures { result ≡ ((pending_of self.now).query.id == id.0) }
     {
-        self.query.id.0 == id.0
+        self.query.id == id
     }
 
-    pub fn is_for(&self, apex: &Name, name: &Name, kind: Kind) -> bool
-        ensures { result ≡ is_for (labels apex.now) (labels name.now) kind.number (pending_of self.now) }
+    pub fn is_for(&self, key: &Key) -> bool
+        ensures { result ≡ is_for (labels key.now.apex) (labels key.now.name) key.now.kind.number (pending_of self.now) }
     {
-        same_name(&self.query.apex, apex)
-            && same_name(&self.query.name, name)
-            && self.query.kind.number() == kind.number()
+        self.query.key == *key
     }
 
-    // Up to and including its moment and patience; past 64 bits where it was asked that late.
+    // Up to and including its moment and patience.
     pub fn is_open(&self, moment: Moment) -> bool
         ensures { result ≡ is_open rules moment.0 (pending_of self.now) }
     {
-        u128::from(moment.0) <= u128::from(self.query.asked.0) + u128::from(PATIENCE)
+        moment.0.saturating_sub(self.query.asked.0) <= PATIENCE
     }
 }

@@ -5,46 +5,31 @@ ghost use Rattle.names.specs.Names.{labels};
 ghost use Rattle.machine.specs.Machine.{question};
 ghost use Rattle.questions.specs.Tries.{question_of, tries_of};
 
-use super::{MAX_WORDS, Question};
-use names::{Fault, Name};
-use records::Kind;
+use super::{Question, Request};
+use crate::bounded::Bounded;
+use names::Fault;
 use std::alloc::Global;
 
 impl Question {
-    pub fn new(heap: Global, ticket: u64, name: Name, kind: Kind) -> Result<Question, Fault>
-        ensures { MatchResult result (λ q. question_of q ≡ question ticket (labels name) kind.number) (λ f. f ≡ NoMemory) }
+    pub fn new(heap: Global, request: Request) -> Result<Question, Fault>
+        ensures { MatchResult result (λ q. question_of q ≡ question request.ticket (labels request.name) request.kind.number) (λ f. f ≡ NoMemory) }
     {
-        let tries = Vec::with_capacity(heap, MAX_WORDS)?;
-        Ok(Question {
-            ticket,
-            name,
-            kind,
-            tries,
-        })
+        let tries = Bounded::new(heap)?;
+        Ok(Question { request, tries })
     }
 
-    pub fn ticket(&self) -> u64
-        ensures { result ≡ (question_of self.now).ticket }
+    pub fn request(&self) -> &Request
+        ensures ticket { result.now.ticket ≡ (question_of self.now).ticket }
+        ensures name { labels result.now.name ≡ (question_of self.now).name }
+        ensures kind { result.now.kind.number ≡ (question_of self.now).kind }
     {
-        self.ticket
-    }
-
-    pub fn name(&self) -> &Name
-        ensures { labels result.now ≡ (question_of self.now).name }
-    {
-        &self.name
-    }
-
-    pub fn kind(&self) -> Kind
-        ensures { result.number ≡ (question_of self.now).kind }
-    {
-        self.kind
+        &self.request
     }
 
     // How many words it needed so far.
     pub fn tries_len(&self) -> usize
         ensures { result ≡ length (tries_of self.now) }
     {
-        self.tries.len()
+        self.tries.as_slice().len()
     }
 }

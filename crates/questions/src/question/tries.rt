@@ -7,69 +7,64 @@ ghost use Rattle.machine.specs.Machine as machine;
 ghost use Rattle.machine.specs.Machine.{is_word, tried_of, too_many};
 ghost use Rattle.questions.specs.Tries.{tried_for, tries_of, question_of, with_tries, tried_again, counted};
 
-use super::{MAX_WORDS, Question};
+use super::Question;
+use crate::query::Pending;
 use crate::tried::Tried;
-use cache::QueryId;
-use names::Name;
+use cache::Key;
 
 impl Question {
     // Where the tries for a word stand.
-    fn find(&self, apex: &Name, name: &Name) -> Option<usize>
-        ensures { result ≡ place_of (is_word (labels apex.now) (labels name.now)) (tries_of self.now) }
+    fn find(&self, key: &Key) -> Option<usize>
+        ensures { result ≡ place_of (is_word (labels key.now.apex) (labels key.now.name)) (tries_of self.now) }
     {
-        let tries = self.tries.as_slice();
-        for i in 0..tries.len() {
-            if tries[i].is_word(apex, name) {
-                return Some(i);
-            }
-        }
-        None
+        self.tries
+            .as_slice()
+            .iter()
+            .position(|tried| tried.is_word(key))
     }
 
-    pub fn tried(&self, apex: &Name, name: &Name) -> Option<Tried>
-        ensures { option_map tried_for result ≡ tried_of (labels apex.now) (labels name.now) (tries_of self.now) }
+    pub fn tried(&self, key: &Key) -> Option<Tried>
+        ensures { option_map tried_for result ≡ tried_of (labels key.now.apex) (labels key.now.name) (tries_of self.now) }
     {
-        let Some(i) = self.find(apex, name) else {
-            return None;
-        };
-        Some(self.tries[i])
+        self.tries
+            .as_slice()
+            .iter()
+            .find(|tried| tried.is_word(key))
+            .copied()
     }
 
     // Whether the word is one of those that it needed, or there may be one more.
-    pub fn may_use(&self, apex: &Name, name: &Name) -> bool
-        ensures { result ≡ not (too_many (tried_of (labels apex.now) (labels name.now) (tries_of self.now)) (tries_of self.now)) }
+    pub fn may_use(&self, key: &Key) -> bool
+        ensures { result ≡ not (too_many (tried_of (labels key.now.apex) (labels key.now.name) (tries_of self.now)) (tries_of self.now)) }
     {
-        match self.find(apex, name) {
-            Some(_) => true,
-            None => self.tries.len() < MAX_WORDS,
-        }
+        self.find(key).is_some() || !self.tries.is_full()
     }
 
     // The tries for the word at a place, with a query more.
-    fn recount(&mut self, at: usize, place: usize, id: QueryId)
+    fn recount(&mut self, at: usize, pending: &Pending)
         requires { at < length (tries_of self.old) }
-        ensures { (d : machine.Tried) → question_of self.new ≡ with_tries (slice_set (tries_of self.old) at (tried_again place id.0 (slice_index_or (tries_of self.old) at d))) (question_of self.old) }
+        ensures { (d : machine.Tried) → question_of self.new ≡ with_tries (slice_set (tries_of self.old) at (tried_again pending.now.place pending.now.query.id.0 (slice_index_or (tries_of self.old) at d))) (question_of self.old) }
     {
-        let tried = self.tries[at];
-        self.tries[at] = tried.again(place, id);
+        let tried = self.tries.at_mut(at);
+        *tried = tried.again(pending);
     }
 
     fn append(&mut self, tried: Tried)
         requires { length (tries_of self.old) < 24 }
         ensures { question_of self.new ≡ with_tries (tries_of self.old ++ tried_for tried ∷ []) (question_of self.old) }
     {
-        self.tries.push_reserved(tried);
+        self.tries.push(tried);
     }
 
     // A query counts once as a try for its word; where the question may need no more words nothing changes.
-    pub fn count_try(&mut self, apex: &Name, name: &Name, place: usize, id: QueryId)
-        ensures { question_of self.new ≡ counted (labels apex.now) (labels name.now) place id.0 (question_of self.old) }
+    pub fn count_try(&mut self, pending: &Pending)
+        ensures { question_of self.new ≡ counted (labels pending.now.query.key.apex) (labels pending.now.query.key.name) pending.now.place pending.now.query.id.0 (question_of self.old) }
     {
-        match self.find(apex, name) {
-            Some(at) => self.recount(at, place, id),
+        match self.find(&pending.query.key) {
+            Some(at) => self.recount(at, pending),
             None => {
-                if self.tries.len() < MAX_WORDS {
-                    self.append(Tried::first(*apex, *name, place, id));
+                if !self.tries.is_full() {
+                    self.append(Tried::first(pending));
                 }
             }
         }

@@ -7,20 +7,19 @@ ghost use Rattle.questions.specs.Queries.{pending_of};
 ghost use Rattle.questions.specs.Tables.{table_of};
 
 use super::PendingTable;
-use super::rule::{Rule, keep};
 use crate::query::Pending;
 use cache::{Moment, QueryId};
 
 impl PendingTable {
-    // At the end, unless the table is full.
+    // At the end, unless the table is full. Whether it was added is all there is to tell, so the answer is no Result.
     pub fn add(&mut self, pending: Pending) -> bool
         ensures told { result ≡ not (nat_le max_pending (length (table_of self.old))) }
         ensures table { table_of self.new ≡ (if result then table_of self.old ++ pending_of pending ∷ [] else table_of self.old) }
     {
-        if self.is_full() {
+        if self.queries.is_full() {
             return false;
         }
-        self.queries.push_reserved(pending);
+        self.queries.push(pending);
         true
     }
 
@@ -28,13 +27,13 @@ impl PendingTable {
     pub fn close(&mut self, id: QueryId)
         ensures { table_of self.new ≡ close_in id.0 (table_of self.old) }
     {
-        keep(&mut self.queries, Rule::NotId(id));
+        self.queries.retain(|pending| !pending.has_id(id));
     }
 
     // Those that may be answered no more are forgotten.
     pub fn expire(&mut self, moment: Moment)
         ensures { table_of self.new ≡ kept (is_open rules moment.0) (table_of self.old) }
     {
-        keep(&mut self.queries, Rule::OpenAt(moment));
+        self.queries.retain(|pending| pending.is_open(moment));
     }
 }

@@ -5,42 +5,41 @@ ghost use Rattle.machine.specs.Machine.{is_word};
 ghost use Rattle.questions.specs.Tries.{tried_for, tried_first, tried_again};
 
 use super::{MOST_COUNTED, Tried};
-use crate::naming::same_name;
-use cache::QueryId;
-use names::Name;
+use crate::query::Pending;
+use cache::Key;
 
 impl Tried {
-    pub fn first(apex: Name, name: Name, place: usize, id: QueryId) -> Tried
-        ensures { tried_for result ≡ tried_first (labels apex) (labels name) place id.0 }
+    pub fn first(pending: &Pending) -> Tried
+        ensures { tried_for result ≡ tried_first (labels pending.now.query.key.apex) (labels pending.now.query.key.name) pending.now.place pending.now.query.id.0 }
     {
         Tried {
-            apex,
-            name,
+            key: pending.query.key,
             count: 1,
-            place,
-            id,
+            place: pending.place,
+            id: pending.query.id,
         }
     }
 
     // A query is counted as one more try of the word, unless it was counted last.
-    pub fn again(self, place: usize, id: QueryId) -> Tried
-        ensures { tried_for result ≡ tried_again place id.0 (tried_for self) }
+    pub fn again(self, pending: &Pending) -> Tried
+        ensures { tried_for result ≡ tried_again pending.now.place pending.now.query.id.0 (tried_for self) }
     {
-        if self.id.0 == id.0 {
+        if pending.has_id(self.id) {
             return self;
         }
         let mut tried = self;
         if tried.count < MOST_COUNTED {
             tried.count += 1;
         }
-        tried.place = place;
-        tried.id = id;
+        tried.place = pending.place;
+        tried.id = pending.query.id;
         tried
     }
 
-    pub fn is_word(&self, apex: &Name, name: &Name) -> bool
-        ensures { result ≡ is_word (labels apex.now) (labels name.now) (tried_for self.now) }
+    // The kind is not compared: all tries of a question are for its own.
+    pub fn is_word(&self, key: &Key) -> bool
+        ensures { result ≡ is_word (labels key.now.apex) (labels key.now.name) (tried_for self.now) }
     {
-        same_name(&self.apex, apex) && same_name(&self.name, name)
+        self.key.has_names_of(key)
     }
 }

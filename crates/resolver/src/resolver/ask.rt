@@ -1,5 +1,5 @@
 // Questions begin, and end where they are done.
-ghost use Rattle.std.specs.Prelude.{◌≡◌, ◌+◌, ◌<◌, ◌++◌, map, take, drop, Some, None, vec_len, MatchOption, MatchResult, slice_index_or};
+ghost use Rattle.std.specs.Prelude.{◌≡◌, ◌+◌, ◌<◌, ◌++◌, map, take, drop, Some, None, length, MatchOption, MatchResult, slice_index_or};
 ghost use Rattle.std.specs.Option.{option_map};
 ghost use Rattle.names.specs.declared.fault.Fault.TheVariants.{NoMemory};
 ghost use Rattle.names.specs.Names.{labels};
@@ -9,12 +9,12 @@ ghost use Rattle.machine.specs.Machine as machine;
 ghost use Rattle.machine.specs.Machine.{first_state, question, begin, settle, settle_in, shown_as};
 ghost use Rattle.resolver.specs.Resolvers.{roots_of, rules_for, state_of, shown_for, answer_for};
 
-use super::{MAX_WALKS, Resolver};
-use crate::answer::{Answer, Shown, Standing};
+use super::Resolver;
+use crate::answer::{Outcome, Shown, Standing};
 use cache::{Cache, Moment};
-use names::{Fault, Name};
-use questions::{PendingTable, Question};
-use records::{Address, Kind};
+use names::Fault;
+use questions::{Bounded, PendingTable, Question, Request};
+use records::Address;
 use std::alloc::Global;
 
 impl Resolver {
@@ -24,7 +24,7 @@ impl Resolver {
     {
         let pending = PendingTable::new(heap)?;
         let cache = Cache::new(heap)?;
-        let walks = Vec::with_capacity(heap, MAX_WALKS)?;
+        let walks = Bounded::new(heap)?;
         Ok(Resolver {
             moment: Moment(0),
             roots,
@@ -35,46 +35,29 @@ impl Resolver {
     }
 
     // A question begins. It is shown at once where the cache has all its words, or no place is left for its walk.
-    pub fn ask(
-        &mut self,
-        heap: Global,
-        ticket: u64,
-        name: Name,
-        kind: Kind,
-    ) -> Result<Option<Shown>, Fault>
-        ensures done { MatchResult result (λ o. (option_map (shown_for (entries_of self.old.cache)) o ≡ (begin (rules_for self.old) (question ticket (labels name) kind.number) (state_of self.old)).shown) × (state_of self.new ≡ (begin (rules_for self.old) (question ticket (labels name) kind.number) (state_of self.old)).state)) (λ f. (f ≡ NoMemory) × (state_of self.new ≡ state_of self.old)) }
+    pub fn ask(&mut self, heap: Global, request: Request) -> Result<Option<Shown>, Fault>
+        ensures done { MatchResult result (λ o. (option_map (shown_for (entries_of self.old.cache)) o ≡ (begin (rules_for self.old) (question request.ticket (labels request.name) request.kind.number) (state_of self.old)).shown) × (state_of self.new ≡ (begin (rules_for self.old) (question request.ticket (labels request.name) request.kind.number) (state_of self.old)).state)) (λ f. (f ≡ NoMemory) × (state_of self.new ≡ state_of self.old)) }
         ensures roots { roots_of self.new ≡ roots_of self.old }
     {
-        if self.walks.len() >= MAX_WALKS {
-            return Ok(Some(Shown {
-                ticket,
-                name,
-                kind,
-                answer: Answer::Nowhere,
-                left: 0,
-            }));
+        if self.walks.is_full() {
+            let outcome = Outcome::NOWHERE;
+            return Ok(Some(Shown { request, outcome }));
         }
-        let question = Question::new(heap, ticket, name, kind)?;
-        if let Standing::Done(answer, left) = self.standing(&question) {
-            return Ok(Some(Shown {
-                ticket,
-                name,
-                kind,
-                answer,
-                left,
-            }));
+        let question = Question::new(heap, request)?;
+        if let Standing::Done(outcome) = self.standing(&question) {
+            return Ok(Some(Shown { request, outcome }));
         }
-        self.walks.push_reserved(question);
+        self.walks.push(question);
         Ok(None)
     }
 
-    // The place of the first question that is done, with its answer and for how long that may be remembered.
-    fn first_done(&self) -> Option<(usize, Answer, u128)>
-        ensures { MatchOption result (settle_in (rules_for self.now) (state_of self.now) (state_of self.now).walks ≡ record { walks = (state_of self.now).walks; shown = None }) (λ p. (p.0 < vec_len self.now.walks) × ((d : machine.Question) → settle_in (rules_for self.now) (state_of self.now) (state_of self.now).walks ≡ record { walks = take p.0 (state_of self.now).walks ++ drop (p.0 + 1) (state_of self.now).walks; shown = Some (shown_as (slice_index_or (state_of self.now).walks p.0 d) (answer_for (entries_of self.now.cache) p.1) p.2) })) }
+    // The place of the first question that is done, and how it ends.
+    fn first_done(&self) -> Option<(usize, Outcome)>
+        ensures { MatchOption result (settle_in (rules_for self.now) (state_of self.now) (state_of self.now).walks ≡ record { walks = (state_of self.now).walks; shown = None }) (λ p. (p.0 < length self.now.walks) × ((d : machine.Question) → settle_in (rules_for self.now) (state_of self.now) (state_of self.now).walks ≡ record { walks = take p.0 (state_of self.now).walks ++ drop (p.0 + 1) (state_of self.now).walks; shown = Some (shown_as (slice_index_or (state_of self.now).walks p.0 d) (answer_for (entries_of self.now.cache) p.1.answer) p.1.left) })) }
     {
-        for i in 0..self.walks.len() {
-            if let Standing::Done(answer, left) = self.standing(&self.walks[i]) {
-                return Some((i, answer, left));
+        for (place, question) in self.walks.as_slice().iter().enumerate() {
+            if let Standing::Done(outcome) = self.standing(question) {
+                return Some((place, outcome));
             }
         }
         None
@@ -86,16 +69,9 @@ impl Resolver {
         ensures state { state_of self.new ≡ (settle (rules_for self.old) (state_of self.old)).state }
         ensures roots { roots_of self.new ≡ roots_of self.old }
     {
-        let Some((place, answer, left)) = self.first_done() else {
-            return None;
-        };
+        let (place, outcome) = self.first_done()?;
         let question = self.walks.remove(place);
-        Some(Shown {
-            ticket: question.ticket(),
-            name: *question.name(),
-            kind: question.kind(),
-            answer,
-            left,
-        })
+        let request = *question.request();
+        Some(Shown { request, outcome })
     }
 }

@@ -1,5 +1,5 @@
 // A query counts as a try, once, for every question that lacks its word and may use it.
-ghost use Rattle.std.specs.Prelude.{◌≡◌};
+ghost use Rattle.std.specs.Prelude.{◌≡◌, map};
 ghost use Rattle.protocol.specs.Walks.{shown_by};
 ghost use Rattle.cache.specs.Caches.{entries_of};
 ghost use Rattle.cache.specs.Entries.{rules};
@@ -9,18 +9,22 @@ ghost use Rattle.questions.specs.Tries.{question_of};
 ghost use Rattle.resolver.specs.Resolvers.{roots_of, rules_for, state_of, count_by};
 
 use super::Resolver;
-use cache::{Cache, Moment};
+use cache::{Cache, Key, Moment};
 use questions::{Pending, Question};
 use walks::{Ending, walk};
 
-// Whether a question's walk lacks the word of a query.
+// Whether a question's walk lacks the word of a query. Cache and moment go by themselves, since the resolver's walks are changed meanwhile.
 fn lacks_word(cache: &Cache, moment: Moment, question: &Question, pending: &Pending) -> bool
     ensures { result ≡ lacks_for (pending_of pending.now) (question_of question.now).kind (shown_by rules moment.0 (entries_of cache.now) (question_of question.now).name (question_of question.now).kind).end }
 {
-    match walk(cache, moment, question.name(), question.kind()).ending {
-        Ending::Lacks(apex, name) => pending.is_for(&apex, &name, question.kind()),
-        Ending::Shows(_) => false,
-        Ending::TooLong => false,
+    let request = question.request();
+    match walk(cache, moment, &request.name, request.kind).ending {
+        Ending::Lacks(apex, name) => pending.is_for(&Key {
+            apex,
+            name,
+            kind: request.kind,
+        }),
+        Ending::Shows(_) | Ending::TooLong => false,
     }
 }
 
@@ -29,8 +33,16 @@ fn count_for(cache: &Cache, moment: Moment, question: &mut Question, pending: &P
     ensures { question_of question.new ≡ count_by moment.0 (entries_of cache.now) (pending_of pending.now) (question_of question.old) }
 {
     if lacks_word(cache, moment, question, pending) {
-        let query = pending.query;
-        question.count_try(&query.apex, &query.name, pending.place, query.id);
+        question.count_try(pending);
+    }
+}
+
+// The count of each of these questions.
+pub fn count_each(cache: &Cache, moment: Moment, walks: &mut [Question], pending: &Pending)
+    ensures { map question_of walks.new ≡ map (count_by moment.0 (entries_of cache.now) (pending_of pending.now)) (map question_of walks.old) }
+{
+    for question in walks {
+        count_for(cache, moment, question, pending);
     }
 }
 
@@ -39,10 +51,7 @@ impl Resolver {
         ensures state { state_of self.new ≡ with_walks (count_tries (rules_for self.old) (state_of self.old) (pending_of pending.now) (state_of self.old).walks) (state_of self.old) }
         ensures roots { roots_of self.new ≡ roots_of self.old }
     {
-        let moment = self.moment;
-        let cache = &self.cache;
-        for question in self.walks.iter_mut() {
-            count_for(cache, moment, question, pending);
-        }
+        let walks = self.walks.as_mut_slice();
+        count_each(&self.cache, self.moment, walks, pending);
     }
 }

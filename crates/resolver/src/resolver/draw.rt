@@ -10,11 +10,10 @@ ghost use Rattle.resolver.specs.Resolvers.{roots_of, rules_for, state_of, one_tr
 ghost use Rattle.resolver.specs.Draws.{wanting, wanting_for, Draws};
 
 use super::Resolver;
-use crate::answer::{Standing, Wanted, Wish};
+use crate::answer::{Standing, Wanted};
 use cache::QueryId;
 use names::Fault;
 use questions::{Pending, Query, Tried};
-use records::Kind;
 
 // The first server is at the place id modulo how many, the next ones follow.
 fn place_for(id: QueryId, many: usize, tried: Option<Tried>) -> usize
@@ -29,19 +28,13 @@ fn place_for(id: QueryId, many: usize, tried: Option<Tried>) -> usize
 }
 
 impl Resolver {
-    // The youngest question that wants a query: its kind, and what it wants.
-    fn wanting(&self) -> Option<Wish>
+    // What the youngest question that wants a query wants.
+    fn wanting(&self) -> Option<Wanted>
         ensures { wanting_for (roots_of self.now) (entries_of self.now.cache) result ≡ wanting (rules_for self.now) (state_of self.now) }
     {
-        let mut i = self.walks.len();
-        while i > 0 {
-            i -= 1;
-            let question = &self.walks[i];
+        for question in self.walks.as_slice().iter().rev() {
             if let Standing::Wants(wanted) = self.standing(question) {
-                return Some(Wish {
-                    kind: question.kind(),
-                    wanted,
-                });
+                return Some(wanted);
             }
         }
         None
@@ -58,19 +51,19 @@ impl Resolver {
         if self.pending.is_full() {
             return Ok(None);
         }
-        let Some(wish) = self.wanting() else {
+        let Some(wanted) = self.wanting() else {
             return Ok(None);
         };
-        let pending = self.query_for(id, wish.kind, &wish.wanted);
+        let pending = self.query_for(id, &wanted);
         self.count_tries(&pending);
         self.pending.add(pending);
         Ok(Some(pending.query))
     }
 
     // The query that is wanted, to the server whose turn it is.
-    fn query_for(&self, id: QueryId, kind: Kind, wanted: &Wanted) -> Pending
+    fn query_for(&self, id: QueryId, wanted: &Wanted) -> Pending
         requires { 0 < length (servers_at (roots_of self.now) (entries_of self.now.cache) wanted.now.referral) }
-        ensures { pending_of result ≡ record { query = query_for id.0 (slice_index_or (servers_at (roots_of self.now) (entries_of self.now.cache) wanted.now.referral) (place_for id.0 (length (servers_at (roots_of self.now) (entries_of self.now.cache) wanted.now.referral)) (one_tried wanted.now.tried)) []) (labels wanted.now.apex) (labels wanted.now.name) kind.number self.now.moment.0; place = place_for id.0 (length (servers_at (roots_of self.now) (entries_of self.now.cache) wanted.now.referral)) (one_tried wanted.now.tried) } }
+        ensures { pending_of result ≡ record { query = query_for id.0 (slice_index_or (servers_at (roots_of self.now) (entries_of self.now.cache) wanted.now.referral) (place_for id.0 (length (servers_at (roots_of self.now) (entries_of self.now.cache) wanted.now.referral)) (one_tried wanted.now.tried)) []) (labels wanted.now.key.apex) (labels wanted.now.key.name) wanted.now.key.kind.number self.now.moment.0; place = place_for id.0 (length (servers_at (roots_of self.now) (entries_of self.now.cache) wanted.now.referral)) (one_tried wanted.now.tried) } }
     {
         let servers = self.servers_at(wanted.referral);
         let place = place_for(id, servers.len(), wanted.tried);
@@ -78,9 +71,7 @@ impl Resolver {
             query: Query {
                 id,
                 server: servers[place],
-                apex: wanted.apex,
-                name: wanted.name,
-                kind,
+                key: wanted.key,
                 asked: self.moment,
             },
             place,

@@ -8,12 +8,11 @@ ghost use Rattle.questions.specs.Tries.{question_of, tries_of, tried_for};
 ghost use Rattle.questions.specs.Queries.{pending_of};
 ghost use Rattle.questions.specs.Tables.{table_of};
 ghost use Rattle.walks.specs.Ways.{servers_at};
-ghost use Rattle.resolver.specs.Resolvers.{roots_of, rules_for, state_of, standing_for, one_tried};
+ghost use Rattle.resolver.specs.Resolvers.{roots_of, rules_for, state_of, standing_for, one_tried, WantsKind};
 
 use super::Resolver;
-use crate::answer::{Answer, Standing, Wanted};
-use cache::Said;
-use names::Name;
+use crate::answer::{Answer, Outcome, Standing, Wanted};
+use cache::{Key, Said};
 use questions::{Pending, Question, Tried};
 use records::Address;
 use walks::{Ending, walk};
@@ -21,10 +20,7 @@ use walks::{Ending, walk};
 fn count_of(tried: Option<Tried>) -> usize
     ensures { result ≡ count_of (one_tried tried) }
 {
-    match tried {
-        Some(tried) => tried.count as usize,
-        None => 0,
-    }
+    tried.map_or(0, |tried| tried.count as usize)
 }
 
 // Each named server was asked twice.
@@ -38,10 +34,7 @@ fn is_exhausted(servers: &[Address], tried: Option<Tried>) -> bool
 fn is_last(tried: Option<Tried>, pending: &Pending) -> bool
     ensures { result ≡ is_last (one_tried tried) (pending_of pending.now) }
 {
-    match tried {
-        Some(tried) => tried.id.0 == pending.query.id.0,
-        None => false,
-    }
+    tried.is_some_and(|tried| tried.id == pending.query.id)
 }
 
 impl Resolver {
@@ -49,68 +42,59 @@ impl Resolver {
     pub fn servers_at(&self, referral: Option<usize>) -> &[Address]
         ensures { map bytes_of result.now ≡ servers_at (roots_of self.now) (entries_of self.now.cache) referral }
     {
-        let Some(place) = referral else {
-            return self.roots.as_slice();
-        };
-        let Some(entry) = self.cache.get(place) else {
-            return self.roots.as_slice();
-        };
-        match &entry.said {
-            Said::Referral(referral) => referral.to.servers.as_slice(),
-            Said::Data(_) => self.roots.as_slice(),
-            Said::Alias(_) => self.roots.as_slice(),
-            Said::NoData => self.roots.as_slice(),
-            Said::NoName => self.roots.as_slice(),
+        let entry = referral.and_then(|place| self.cache.get(place));
+        match entry.map(|entry| &entry.said) {
+            Some(Said::Referral(referral)) => referral.to.servers.as_slice(),
+            _ => self.roots.as_slice(),
         }
     }
 
     // A question that lacks a word which it may use.
-    fn lacking(
-        &self,
-        question: &Question,
-        apex: Name,
-        name: Name,
-        referral: Option<usize>,
-    ) -> Standing
-        ensures { standing_for (roots_of self.now) (entries_of self.now.cache) result ≡ lacking (labels apex) (labels name) (servers_at (roots_of self.now) (entries_of self.now.cache) referral) (tried_of (labels apex) (labels name) (tries_of question.now)) (pending_for (labels apex) (labels name) question.now.kind.number (table_of self.now.pending)) }
+    fn lacking(&self, question: &Question, key: Key, referral: Option<usize>) -> Standing
+        ensures standing { standing_for (roots_of self.now) (entries_of self.now.cache) result ≡ lacking (labels key.apex) (labels key.name) (servers_at (roots_of self.now) (entries_of self.now.cache) referral) (tried_of (labels key.apex) (labels key.name) (tries_of question.now)) (pending_for (labels key.apex) (labels key.name) key.kind.number (table_of self.now.pending)) }
+        ensures kind { WantsKind key.kind.number result }
     {
-        let tried = question.tried(&apex, &name);
-        let exhausted = is_exhausted(self.servers_at(referral), tried);
-        match self.pending.for_word(&apex, &name, question.kind()) {
-            Some(pending) => {
-                if exhausted && !is_last(tried, &pending) {
-                    Standing::Done(Answer::Nowhere, 0)
-                } else {
-                    Standing::Awaits(apex, name)
-                }
-            }
-            None => {
-                if exhausted {
-                    Standing::Done(Answer::Nowhere, 0)
-                } else {
-                    Standing::Wants(Wanted {
-                        apex,
-                        name,
-                        referral,
-                        tried,
-                    })
-                }
-            }
+        let tried = question.tried(&key);
+        let pending = self.pending.for_word(&key);
+        if is_exhausted(self.servers_at(referral), tried)
+            && !pending.is_some_and(|pending| is_last(tried, &pending))
+        {
+            return Standing::Done(Outcome::NOWHERE);
+        }
+        match pending {
+            Some(_) => Standing::Awaits(key),
+            None => Standing::Wants(Wanted {
+                key,
+                referral,
+                tried,
+            }),
         }
     }
 
+    // What it wants is of its own kind.
     pub fn standing(&self, question: &Question) -> Standing
-        ensures { standing_for (roots_of self.now) (entries_of self.now.cache) result ≡ standing (rules_for self.now) (state_of self.now) (question_of question.now) }
+        ensures standing { standing_for (roots_of self.now) (entries_of self.now.cache) result ≡ standing (rules_for self.now) (state_of self.now) (question_of question.now) }
+        ensures kind { WantsKind (question_of question.now).kind result }
     {
-        let course = walk(&self.cache, self.moment, question.name(), question.kind());
+        let request = question.request();
+        let kind = request.kind;
+        let course = walk(&self.cache, self.moment, &request.name, kind);
+        let left = course.least;
         match course.ending {
-            Ending::Shows(place) => Standing::Done(Answer::At(place), course.least),
-            Ending::TooLong => Standing::Done(Answer::TooLong, course.least),
+            Ending::Shows(place) => Standing::Done(Outcome {
+                answer: Answer::At(place),
+                left,
+            }),
+            Ending::TooLong => Standing::Done(Outcome {
+                answer: Answer::TooLong,
+                left,
+            }),
             Ending::Lacks(apex, name) => {
-                if question.may_use(&apex, &name) {
-                    self.lacking(question, apex, name, course.referral)
+                let key = Key { apex, name, kind };
+                if question.may_use(&key) {
+                    self.lacking(question, key, course.referral)
                 } else {
-                    Standing::Done(Answer::Nowhere, 0)
+                    Standing::Done(Outcome::NOWHERE)
                 }
             }
         }

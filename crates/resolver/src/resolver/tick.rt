@@ -1,34 +1,24 @@
 // A second passes: queries run out, and count for those that came to wait for them later.
 ghost use Rattle.std.specs.Prelude.{◌≡◌, ◌+◌, not, if◌then◌else◌, nat_lt};
-ghost use Rattle.std.specs.List.{slice_get};
 ghost use Rattle.protocol.specs.Lists.{kept};
 ghost use Rattle.cache.specs.Entries.{rules};
 ghost use Rattle.machine.specs.Machine.{is_open, count_all, with_walks, tick};
-ghost use Rattle.resolver.specs.Resolvers.{roots_of, rules_for, state_of, counted_at};
+ghost use Rattle.resolver.specs.Resolvers.{roots_of, rules_for, state_of};
 
 use super::Resolver;
+use super::count::count_each;
 use cache::Moment;
 
 impl Resolver {
-    // Counts the query at a place, if it runs out before a moment.
-    fn count_expired_at(&mut self, i: usize, next: Moment)
-        ensures state { state_of self.new ≡ counted_at (rules_for self.old) next.0 (slice_get (state_of self.old).pending i) (state_of self.old) }
-        ensures roots { roots_of self.new ≡ roots_of self.old }
-    {
-        let Some(pending) = self.pending.at(i) else {
-            return;
-        };
-        if !pending.is_open(next) {
-            self.count_tries(&pending);
-        }
-    }
-
     fn count_expired(&mut self, next: Moment)
         ensures state { state_of self.new ≡ with_walks (count_all (rules_for self.old) (state_of self.old) (kept (λ x. not (is_open rules next.0 x)) (state_of self.old).pending) (state_of self.old).walks) (state_of self.old) }
         ensures roots { roots_of self.new ≡ roots_of self.old }
     {
-        for i in 0..self.pending.len() {
-            self.count_expired_at(i, next);
+        let walks = self.walks.as_mut_slice();
+        for pending in self.pending.as_slice() {
+            if !pending.is_open(next) {
+                count_each(&self.cache, self.moment, walks, pending);
+            }
         }
     }
 

@@ -1,4 +1,5 @@
-use Rattle.std.proofs.Common.{vec_items, refl, arith}
+use Rattle.std.proofs.Common.{length, sym, refl, arith}
+use Rattle.std.proofs.lemmas.Bool.{leb-false, leb-true}
 use lib.ListN.{length-map}
 use Rattle.names.specs.Names.{labels}
 use Rattle.machine.specs.Machine.{is_word}
@@ -9,39 +10,36 @@ use Rattle.questions.proofs.question.Question.count_try.Goals as goal
 
 pub recount-requires : goal.recount-requires
 recount-requires c =
-    let test = is_word (labels c.args.apex.now) (labels c.args.name.now) in
+    let key = c.args.pending.now.query.key in
+    let test = is_word (labels key.apex) (labels key.name) in
     let ts = tries_of c.args.self.now in
     stands_within test ts c.in-Some.at (stands test ts c.in-Some.at c.in-Some.ensures)
 
-pub append-requires : goal.append-requires
-append-requires c =
-    let self = c.args.self.now in
-    let n = self.tries.ok.0 in
-    let m = length-map (vec_items self.tries) tried_for in
-    omega arith
-
 pub returns-in-Some : goal.returns-in-Some
 returns-in-Some c =
-    let a = labels c.args.apex.now in
-    let p = labels c.args.name.now in
+    let query = c.args.pending.now.query in
+    let a = labels query.key.apex in
+    let p = labels query.key.name in
     let self = c.args.self.now in
     let d = tried_first a p 0 0 in
-    counts_place a p c.args.place c.args.id.0 (question_of self) (question_of c.recount.new.self) c.in-Some.at d (stands (is_word a p) (tries_of self) c.in-Some.at c.in-Some.ensures) (c.recount.ensures d)
+    counts_place a p c.args.pending.now.place query.id.0 (question_of self) (question_of c.recount.new.self) c.in-Some.at d (stands (is_word a p) (tries_of self) c.in-Some.at c.in-Some.ensures) (c.recount.ensures d)
 
-pub returns-then-len-lt-MAX_WORDS : goal.returns-then-len-lt-MAX_WORDS
-returns-then-len-lt-MAX_WORDS c =
-    let a = labels c.args.apex.now in
-    let p = labels c.args.name.now in
+pub returns-then-not-is_full : goal.returns-then-not-is_full
+returns-then-not-is_full c =
+    let query = c.args.pending.now.query in
+    let a = labels query.key.apex in
+    let p = labels query.key.name in
     let self = c.args.self.now in
-    let n = self.tries.ok.0 in
-    let m = length-map (vec_items self.tries) tried_for in
-    counts_new a p c.args.place c.args.id.0 (question_of self) (question_of c.append.new.self) (tried_for c.first.result) (lacks (is_word a p) (tries_of self) c.in-None.ensures) (omega arith) c.first.ensures c.append.ensures
+    let m = length-map self.tries tried_for in
+    let l = leb-false 24 (length self.tries) (sym c.if-not-is_full.ensures) in
+    counts_new a p c.args.pending.now.place query.id.0 (question_of self) (question_of c.append.new.self) (tried_for c.first.result) (lacks (is_word a p) (tries_of self) c.in-None.ensures) (omega arith) c.first.ensures c.append.ensures
 
-pub returns-else-len-lt-MAX_WORDS : goal.returns-else-len-lt-MAX_WORDS
-returns-else-len-lt-MAX_WORDS c =
-    let a = labels c.args.apex.now in
-    let p = labels c.args.name.now in
+pub returns-else-not-is_full : goal.returns-else-not-is_full
+returns-else-not-is_full c =
+    let query = c.args.pending.now.query in
+    let a = labels query.key.apex in
+    let p = labels query.key.name in
     let self = c.args.self.now in
-    let n = self.tries.ok.0 in
-    let m = length-map (vec_items self.tries) tried_for in
-    counts_no_more a p c.args.place c.args.id.0 (question_of self) (question_of self) (lacks (is_word a p) (tries_of self) c.in-None.ensures) (omega arith) refl
+    let m = length-map self.tries tried_for in
+    let l = leb-true 24 (length self.tries) (sym c.if-not-is_full.ensures) in
+    counts_no_more a p c.args.pending.now.place query.id.0 (question_of self) (question_of self) (lacks (is_word a p) (tries_of self) c.in-None.ensures) (omega arith) refl

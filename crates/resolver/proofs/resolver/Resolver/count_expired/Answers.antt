@@ -1,22 +1,32 @@
-use Rattle.std.proofs.Common.{not, refl, ◌∙◌, arith}
-use Rattle.cache.specs.Entries.{rules}
-use Rattle.machine.specs.Machine.{is_open}
-use Rattle.resolver.specs.Resolvers.{roots_of, rules_for, state_of}
-use Rattle.resolver.proofs.Ticking.{none_counted, next_counted, past_counted}
+use Rattle.std.proofs.Common.{◌≡◌, Bool, not, map, length, sym, ap, ◌∙◌, arith}
+use Rattle.cache.specs.Entries.{rules as times}
+use Rattle.machine.specs.Machine.{Pending, is_open, with_walks, count_all}
+use Rattle.protocol.specs.Lists.{kept}
+use Rattle.questions.specs.Queries.{pending_of}
+use Rattle.questions.specs.Tries.{question_of}
+use Rattle.questions.proofs.Writing.{written_all}
+use Rattle.resolver.specs.Resolvers.{rules_for, state_of}
+use Rattle.resolver.proofs.Ticking.{passed_by, counted_one, all_counted}
+use Rattle.resolver.proofs.resolver.Resolver.count_expired.Goals.{then-not-is_open, else-not-is_open}
 use Rattle.resolver.proofs.resolver.Resolver.count_expired.Goals as goal
 
-pub loop-i-init : goal.loop-i-init
-loop-i-init c = (none_counted (rules_for c.args.self.now) (state_of c.args.self.now) (λ x. not (is_open rules c.args.next.0 x)), refl)
+pub loop-pending-preserved : goal.loop-pending-preserved
+loop-pending-preserved c =
+    let self = c.args.self.now in
+    let out : Pending → Bool = λ x. not (is_open times c.args.next.0 x) in
+    let i = c.loop-pending.pending-index in
+    elim c.if-not-is_open.branch [
+      | then-not-is_open w ↦ counted_one pending_of out (rules_for self) (state_of self) c.as_slice-pending-items.result.now i c.pending-item.result _ (map question_of c.loop-pending.walks) _ (omega arith) c.pending-item.is (ap not (sym w.if-not-is_open.ensures)) (ap (map question_of) w.walks-is ∙ w.count_each.ensures) c.loop-pending.invariant
+      | else-not-is_open w ↦ passed_by pending_of out (rules_for self) (state_of self) c.as_slice-pending-items.result.now i c.pending-item.result _ (map question_of c.loop-pending.walks) _ (omega arith) c.pending-item.is (ap not (sym w.if-not-is_open.ensures)) (ap (map question_of) w.walks-is) c.loop-pending.invariant
+    ]
 
-pub loop-i-preserved : goal.loop-i-preserved
-loop-i-preserved c = (
-  next_counted (roots_of c.args.self.now) (state_of c.args.self.now) c.args.next.0 (roots_of c.loop-i.self) c.loop-i.i (state_of c.loop-i.self) (state_of c.count_expired_at.new.self) (omega arith) c.count_expired_at.ensures.state c.loop-i.invariant.0,
-  c.count_expired_at.ensures.roots ∙ c.loop-i.invariant.1,
-)
-
-pub returns : goal.returns
-returns c =
-    record {
-      state = past_counted (rules_for c.args.self.now) (state_of c.args.self.now) (λ x. not (is_open rules c.args.next.0 x)) c.loop-i.i (state_of c.loop-i.self) (omega arith) c.loop-i.invariant.0;
-      roots = c.loop-i.invariant.1;
-    }
+pub returns-clause-state : goal.returns-clause-state
+returns-clause-state c =
+    let self = c.args.self.now in
+    let st = state_of self in
+    let out : Pending → Bool = λ x. not (is_open times c.args.next.0 x) in
+    let long : length c.loop-pending.walks ≡ length self.walks = c.loop-pending.auto.walks ∙ ap length c.as_mut_slice-walks.ensures.value in
+    ap (λ us. with_walks us st)
+    (ap (map question_of) (written_all self.walks c.loop-pending.walks long)
+    ∙ all_counted pending_of out (rules_for self) st c.as_slice-pending-items.result.now c.loop-pending.pending-index (map question_of c.as_mut_slice-walks.result.now) (map question_of c.loop-pending.walks) (omega arith) c.loop-pending.invariant
+    ∙ (λ i. count_all (rules_for self) st (kept out (c.as_slice-pending-items.ensures i)) (map question_of (c.as_mut_slice-walks.ensures.value i))))

@@ -1,9 +1,11 @@
-use Rattle.std.proofs.Common.{◌≡◌, not}
-use Rattle.cache.specs.Entries.{rules}
+use Rattle.std.proofs.Common.{not, map}
+use Rattle.cache.specs.Entries.{rules as times}
 use Rattle.machine.specs.Machine.{is_open}
-use Rattle.resolver.specs.Resolvers.{roots_of, rules_for, state_of}
+use Rattle.questions.specs.Queries.{pending_of}
+use Rattle.questions.specs.Tries.{question_of}
+use Rattle.resolver.specs.Resolvers.{rules_for, state_of}
 use Rattle.resolver.proofs.Ticking.{Counted}
 use Rattle.resolver.proofs.resolver.Resolver.count_expired.Given as goal
 
-abbrev pub invariant-loop-i : goal.invariant-loop-i
-invariant-loop-i l = Counted (rules_for l.initial.self) (state_of l.initial.self) (λ x. not (is_open rules l.next.0 x)) l.i (state_of l.self) × (roots_of l.self ≡ roots_of l.initial.self)
+abbrev pub invariant-loop-pending : goal.invariant-loop-pending
+invariant-loop-pending l = Counted pending_of (λ x. not (is_open times l.next.0 x)) (rules_for l.fn.self) (state_of l.fn.self) l.pending-items l.pending-index (map question_of l.initial.walks) (map question_of l.walks)

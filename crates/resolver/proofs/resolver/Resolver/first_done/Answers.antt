@@ -1,36 +1,42 @@
-use Rattle.std.proofs.Common.{◌+◌, ◌++◌, map, take, drop, Some, vec_items, sym, ap, ◌∙◌, arith}
+use Rattle.std.proofs.Common.{◌+◌, ◌++◌, map, length, get_or, take, drop, Some, sym, ap, ◌∙◌, arith}
 use lib.ListN.{length-map}
 use Rattle.cache.specs.Caches.{entries_of}
 use Rattle.questions.specs.Tries.{question_of}
 use Rattle.machine.specs.Machine.{is_done, shown_as}
 use Rattle.resolver.specs.Resolvers.{roots_of, rules_for, state_of, answer_for}
-use Rattle.resolver.proofs.Asking.{none_yet, not_this, this_one, none_done, not_done, read_at}
+use Rattle.resolver.proofs.Asking.{not_this, this_one, none_done, not_done, read_at}
 use Rattle.resolver.proofs.resolver.Resolver.first_done.Goals as goal
 
-pub loop-i-init : goal.loop-i-init
-loop-i-init c = none_yet (rules_for c.args.self.now) (state_of c.args.self.now) (map question_of (vec_items c.args.self.now.walks))
-
-pub loop-i-preserved : goal.loop-i-preserved
-loop-i-preserved c =
-    let m = length-map (vec_items c.args.self.now.walks) question_of in
-    let k = c.args.self.now.walks.ok.0 in
-    let q = c.index.result.now in
-    not_this (rules_for c.args.self.now) (state_of c.args.self.now) (map question_of (vec_items c.args.self.now.walks)) c.loop-i.i (question_of c.index.result.now) (omega arith) (read_at question_of (vec_items c.args.self.now.walks) c.loop-i.i c.index.result.now (omega arith) c.index.ensures (question_of c.index.result.now))
-    (ap is_done (sym c.standing.ensures) ∙ not_done (roots_of c.args.self.now) (entries_of c.args.self.now.cache) c.standing.result c.in_default.not-Done) c.loop-i.invariant
+pub loop-place-preserved : goal.loop-place-preserved
+loop-place-preserved c =
+    let self = c.args.self.now in
+    let place = c.loop-place.place in
+    let q = c.question-item.result in
+    let m = length-map self.walks question_of in
+    let k = ap length c.as_slice-question-items.ensures in
+    not_this (rules_for self) (state_of self) (map question_of self.walks) place (question_of q) (omega arith) (read_at question_of self.walks place q (omega arith) (c.question-item.is ∙ ap (λ ws. get_or ws place q) c.as_slice-question-items.ensures) (question_of q))
+    (ap is_done (sym c.standing.ensures.standing) ∙ not_done (roots_of self) (entries_of self.cache) c.standing.result c.in_default.not-Done) c.loop-place.invariant
 
 pub returns-in-Done : goal.returns-in-Done
 returns-in-Done c =
-    let m = length-map (vec_items c.args.self.now.walks) question_of in
-    let k = c.args.self.now.walks.ok.0 in (
+    let self = c.args.self.now in
+    let place = c.loop-place.place in
+    let q = c.question-item.result in
+    let us = map question_of self.walks in
+    let m = length-map self.walks question_of in
+    let k = ap length c.as_slice-question-items.ensures in
+    let r = read_at question_of self.walks place q (omega arith) (c.question-item.is ∙ ap (λ ws. get_or ws place q) c.as_slice-question-items.ensures) in
+    let outcome = c.in-Done.outcome in
+    let answer = answer_for (entries_of self.cache) outcome.answer in (
       omega arith,
       λ d.
-          let r = read_at question_of (vec_items c.args.self.now.walks) c.loop-i.i c.index.result.now (omega arith) c.index.ensures in
-          this_one (rules_for c.args.self.now) (state_of c.args.self.now) (map question_of (vec_items c.args.self.now.walks)) c.loop-i.i (question_of c.index.result.now) (answer_for (entries_of c.args.self.now.cache) c.in-Done.answer) c.in-Done.left (omega arith) (r (question_of c.index.result.now)) c.in-Done.ensures c.loop-i.invariant
-          ∙ (λ j. record { walks = take c.loop-i.i (map question_of (vec_items c.args.self.now.walks)) ++ drop (c.loop-i.i + 1) (map question_of (vec_items c.args.self.now.walks)); shown = Some (shown_as (r d j) (answer_for (entries_of c.args.self.now.cache) c.in-Done.answer) c.in-Done.left) }),
+          this_one (rules_for self) (state_of self) us place (question_of q) answer outcome.left (omega arith) (r (question_of q)) c.in-Done.ensures.standing c.loop-place.invariant
+          ∙ (λ j. record { walks = take place us ++ drop (place + 1) us; shown = Some (shown_as (r d j) answer outcome.left) }),
     )
 
 pub returns : goal.returns
 returns c =
-    let m = length-map (vec_items c.args.self.now.walks) question_of in
-    let k = c.args.self.now.walks.ok.0 in
-    none_done (rules_for c.args.self.now) (state_of c.args.self.now) (map question_of (vec_items c.args.self.now.walks)) c.loop-i.i (omega arith) c.loop-i.invariant
+    let self = c.args.self.now in
+    let m = length-map self.walks question_of in
+    let k = ap length c.as_slice-question-items.ensures in
+    none_done (rules_for self) (state_of self) (map question_of self.walks) c.loop-place.place (omega arith) c.loop-place.invariant
