@@ -1,10 +1,11 @@
 -- Hints in order, one more, one less, and looked through.
-use Rattle.std.proofs.Common.{◌≡◌, ℕ, suc, ◌+◌, ◌-◌, ◌<◌, ◌≤◌, Bool, true, false, cond, eqb, ◌⊎◌, List, [], ◌∷◌, ◌++◌, length, get_or, take, drop, sym, refl, ap, ◌∙◌, subst, inl, inr, ⊎_elim, true≢false, arith, drop-cons}
+use Rattle.std.proofs.Common.{◌≡◌, ◌≢◌, ℕ, suc, ◌+◌, ◌-◌, ◌<◌, ◌≤◌, Bool, true, false, cond, eqb, ◌⊎◌, List, [], ◌∷◌, ◌++◌, length, get_or, take, drop, MatchOption, Some, None, Option, sym, refl, ap, ◌∙◌, subst, inl, inr, ⊎_elim, true≢false, arith, drop-cons}
 use mathlib.Core.List.Memᴰ
 use mathlib.Core.List.{Memᴰ}
-use Rattle.std.specs.List.{insert, remove}
+use Rattle.std.specs.List.{insert, remove, AllWithin, HoldsAt}
 use Rattle.std.proofs.lemmas.List.Edits.{length-insert, get_or-insert_below, get_or-insert_at, get_or-insert_above, length-remove, get_or-remove_below, get_or-remove_above}
 use Rattle.std.proofs.lemmas.List.{get_or_default, take-append-drop}
+use Rattle.std.specs.List.Sorted.{IsNonDecreasingBy}
 use Rattle.std.proofs.lemmas.List.Sorted.{IsNonDecreasingBy-from_all_adjacent}
 use Rattle.std.proofs.lemmas.Bool.{and_parts, and_from, eqb-true, eq-eqb, cases_lt, cases_order, or_cases}
 use Rattle.protocol.specs.Lists.{any}
@@ -12,13 +13,13 @@ use Rattle.protocol.proofs.Lists.{any_some, some_any}
 use Rattle.cache.specs.declared.index.Hint.{Hint}
 use Rattle.cache.specs.Hints.{hash_in, is_hint, hinted, hash_at, place_on, Rising}
 
-abbrev blank : Hint
+abbrev pub blank : Hint
 blank = record { hash = 0; place = 0 }
 
 -- ---- in order
 
-pub far : (xs : List Hint) → Rising xs → (i j : ℕ) → i ≤ j → j < length xs → hash_at xs i ≤ hash_at xs j
-far xs h i j = IsNonDecreasingBy-from_all_adjacent hash_in xs near i j blank
+pub ordered : (xs : List Hint) → Rising xs → IsNonDecreasingBy hash_in xs
+ordered xs h = IsNonDecreasingBy-from_all_adjacent hash_in xs near
   where
     near : (k : ℕ) (d : Hint) → k + 1 < length xs → hash_in (get_or xs k d) ≤ hash_in (get_or xs (k + 1) d)
     near k d l =
@@ -26,6 +27,9 @@ far xs h i j = IsNonDecreasingBy-from_all_adjacent hash_in xs near i j blank
         let b = ap hash_in (get_or_default xs (k + 1) d blank l) in
         let c = h k l in
         omega arith
+
+pub far : (xs : List Hint) → Rising xs → (i j : ℕ) → i ≤ j → j < length xs → hash_at xs i ≤ hash_at xs j
+far xs h i j = ordered xs h i j blank
 
 pub was_inserted : (xs ys : List Hint) (p : ℕ) (x : Hint) (b : Bool) → ys ≡ cond b (insert xs p x) xs → b ≡ true → ys ≡ insert xs p x
 was_inserted xs ys p x b e t = e ∙ ap (λ c. cond c (insert xs p x) xs) t
@@ -80,13 +84,6 @@ module _ (xs : List Hint) (r : Rising xs) (p : ℕ) where
       go (inr a) (inl b) = absurd (omega arith)
       go (inr a) (inr b) = let s = size in let x = above k a in let y = above (k + 1) b in let c = far xs r (k + 1) (k + 1 + 1) (omega arith) (omega arith) in omega arith
 
--- the two ways of a search that halves
-pub lower_half : (xs : List Hint) → Rising xs → (m h : ℕ) → m < length xs → hash_at xs m < h → (k : ℕ) → k < m + 1 → hash_at xs k < h
-lower_half xs r m h l a k b = let c = far xs r k m (omega arith) l in omega arith
-
-pub upper_half : (xs : List Hint) → Rising xs → (m h : ℕ) → h ≤ hash_at xs m → (k : ℕ) → m ≤ k → k < length xs → h ≤ hash_at xs k
-upper_half xs r m h a k b l = let c = far xs r m k b l in omega arith
-
 -- ---- which hints there are
 
 module _ (xs : List Hint) (p : ℕ) where
@@ -139,3 +136,7 @@ unhinted xs q never h = go (hinted h q xs) refl
         let x = get_or xs r.0 blank in
         absurd (never r.0 r.1 (eqb-true x.place q (and_parts (eqb x.hash h) (eqb x.place q) r.2).1))
     go false e = e
+
+pub no_hint : (xs : List Hint) (q : ℕ) (o : Option ℕ) → MatchOption o (AllWithin (λ (x : Hint). x.place ≢ q) xs 0 (length xs)) (λ i. (i < length xs) × HoldsAt (λ (x : Hint). x.place ≡ q) xs i × AllWithin (λ (x : Hint). x.place ≢ q) xs 0 i) → MatchOption o ((h : ℕ) → hinted h q xs ≡ false) (λ k. (k < length xs) × (place_on xs k ≡ q))
+no_hint xs q None h = λ k. unhinted xs q (λ i l e. h i blank (omega arith) l e) k
+no_hint xs q (Some i) h = (h.0, h.1 blank)

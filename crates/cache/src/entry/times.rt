@@ -9,22 +9,16 @@ ghost use Rattle.cache.specs.Entries.{entry_of, rules};
 
 use super::{Entry, Key};
 use crate::word::Moment;
-use names::Name;
 
 // In seconds: no word counts for longer.
 pub const DAY: u32 = 86_400;
 
-fn is_same(a: &Name, b: &Name) -> bool
-    ensures { result ≡ same (labels a.now) (labels b.now) }
-{
-    *a == *b
-}
-
 impl Key {
-    fn has_names_of(&self, other: &Key) -> bool
+    // Whether another key has the same apex and name, of whatever kind.
+    pub fn has_names_of(&self, other: &Key) -> bool
         ensures { result ≡ (same (labels self.now.apex) (labels other.now.apex) && same (labels self.now.name) (labels other.now.name)) }
     {
-        is_same(&self.apex, &other.apex) && is_same(&self.name, &other.name)
+        self.apex == other.apex && self.name == other.name
     }
 }
 
@@ -54,14 +48,12 @@ impl Entry {
     pub fn is_sooner(&self, other: &Entry) -> bool
         ensures { result ≡ sooner rules (entry_of self.now) (entry_of other.now) }
     {
-        let mine = self.until();
-        let others = other.until();
-        mine < others || (mine == others && self.numbers.heard.0 < other.numbers.heard.0)
+        (self.until(), self.numbers.heard) < (other.until(), other.numbers.heard)
     }
 
     pub fn has_key(&self, key: &Key) -> bool
         ensures { result ≡ is_key (labels key.now.apex) (labels key.now.name) key.now.kind.number (entry_of self.now) }
     {
-        self.key.has_names_of(key) && self.key.kind.number() == key.kind.number()
+        self.key == *key
     }
 }

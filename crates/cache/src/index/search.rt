@@ -24,33 +24,15 @@ impl Index {
         ensures below { (k : ℕ) → k < result → hash_at (hints_of self.now) k < hash }
         ensures above { (k : ℕ) → result ≤ k → k < length (hints_of self.now) → hash ≤ hash_at (hints_of self.now) k }
     {
-        let hints = self.hints.as_slice();
-        let mut low: usize = 0;
-        let mut high: usize = hints.len();
-        while low < high {
-            let middle = low + (high - low) / 2;
-            if hints[middle].hash < hash {
-                low = middle + 1;
-            } else {
-                high = middle;
-            }
-        }
-        low
+        self.hints.partition_point(|hint| hint.hash < hash)
     }
 
     // The place in the hint at an index, if there is one and it has the hash.
     pub fn place_at(&self, at: usize, hash: u64) -> Option<usize>
         ensures { result ≡ place_in hash (slice_get (hints_of self.now) at) }
     {
-        if at >= self.hints.len() {
-            return None;
-        }
-        let hint = self.hints[at];
-        if hint.hash == hash {
-            Some(hint.place)
-        } else {
-            None
-        }
+        let hint = self.hints.get(at)?;
+        (hint.hash == hash).then_some(hint.place)
     }
 
     // One hint more, where there is room.
@@ -69,13 +51,7 @@ impl Index {
     fn position(&self, place: usize) -> Option<usize>
         ensures { MatchOption result (((h : ℕ) → hinted h place (hints_of self.now) ≡ false)) (λ k. (k < length (hints_of self.now)) × (place_on (hints_of self.now) k ≡ place)) }
     {
-        let hints = self.hints.as_slice();
-        for at in 0..hints.len() {
-            if hints[at].place == place {
-                return Some(at);
-            }
-        }
-        None
+        self.hints.iter().position(|hint| hint.place == place)
     }
 
     // Without a hint of a place that has one.

@@ -21,26 +21,15 @@ pub enum Stored {
     NoRoom,
 }
 
-fn is_free(used: &[bool], place: usize) -> bool
-    requires { place < length used.now }
-    ensures { result ≡ not (slice_index_or used.now place false) }
-{
-    !used[place]
-}
-
 impl Cache {
     // Of the entry at a place and one behind it, the one that runs out first.
     fn first_out(&self, place: usize, behind: Option<usize>) -> usize
         requires { (place < vec_len self.now.entries) × (IfSome behind (λ j. j < vec_len self.now.entries)) }
         ensures { (d : world.Entry) → Some result ≡ first_of_two rules d (entries_of self.now) place behind }
     {
-        let Some(other) = behind else {
-            return place;
-        };
-        if self.entries[other].is_sooner(&self.entries[place]) {
-            other
-        } else {
-            place
+        match behind {
+            Some(other) if self.entries[other].is_sooner(&self.entries[place]) => other,
+            _ => place,
         }
     }
 
@@ -48,11 +37,9 @@ impl Cache {
     fn soonest(&self, used: &[bool]) -> Option<usize>
         ensures { result ≡ soonest_by rules used.now (entries_of self.now) }
     {
-        let mut found: Option<usize> = None;
-        let mut place = self.entries.len().min(used.len());
-        while place > 0 {
-            place -= 1;
-            if is_free(used, place) {
+        let mut found = None;
+        for place in (0..self.entries.len().min(used.len())).rev() {
+            if !used[place] {
                 found = Some(self.first_out(place, found));
             }
         }

@@ -1,8 +1,8 @@
-use Rattle.std.proofs.Common.{◌≡◌, ◌+◌, ◌-◌, ◌<◌, true, false, length, get_or, vec_items, vec_len, sym, ◌∙◌, arith}
+use Rattle.std.proofs.Common.{◌≡◌, ◌+◌, ◌-◌, ◌<◌, true, false, length, get_or, vec_items, vec_len, sym, ap, ◌∙◌, arith}
 use Rattle.std.proofs.lemmas.List.{get_or_default}
-use Rattle.std.proofs.lemmas.Bool.{not-true, not-false}
 use Rattle.cache.specs.Entries.{entry_of, rules}
-use Rattle.cache.proofs.Soonest.{at_end, passed_used, took_unused, stands_within}
+use Rattle.cache.specs.Caches.{entries_of}
+use Rattle.cache.proofs.Soonest.{at_end, passed_used, took_unused, stands_within, From, from_all}
 use Rattle.cache.proofs.store.Cache.soonest.Goals as goal
 
 pub loop-place-init : goal.loop-place-init
@@ -17,13 +17,13 @@ first_out-requires c =
     let w = stands_within entry_of rules (vec_items c.args.self.now.entries) c.args.used.now c.loop-place.place (vec_len c.args.self.now.entries) c.loop-place.found n (omega arith) i.0 in
     (omega arith, w)
 
-pub loop-place-preserved-then-is_free : goal.loop-place-preserved-then-is_free
-loop-place-preserved-then-is_free c =
+pub loop-place-preserved-then-not-used-place : goal.loop-place-preserved-then-not-used-place
+loop-place-preserved-then-not-used-place c =
     let n = c.args.self.now.entries.ok.0 in
     let i = c.loop-place.invariant in
     let t = c.loop-place-test.true in
     let e : c.loop-place.place - 1 + 1 ≡ c.loop-place.place = omega arith in
-    (took_unused entry_of rules (vec_items c.args.self.now.entries) c.args.used.now c.loop-place.place (c.loop-place.place - 1) c.loop-place.found c.first_out.result e (omega arith) (omega arith) i.0 (sym (not-true (get_or c.args.used.now (c.loop-place.place - 1) false) (sym c.if-is_free.ensures))) c.first_out.ensures, omega arith, omega arith)
+    (took_unused entry_of rules (vec_items c.args.self.now.entries) c.args.used.now c.loop-place.place (c.loop-place.place - 1) c.loop-place.found c.first_out.result e (omega arith) (omega arith) i.0 (sym c.if-not-used-place.true) c.first_out.ensures, omega arith, omega arith)
 
 pub loop-place-preserved : goal.loop-place-preserved
 loop-place-preserved c =
@@ -32,5 +32,11 @@ loop-place-preserved c =
     let t = c.loop-place-test.true in
     let e : c.loop-place.place - 1 + 1 ≡ c.loop-place.place = omega arith in
     let l : c.loop-place.place - 1 < length c.args.used.now = omega arith in
-    let u = sym (not-false (get_or c.args.used.now (c.loop-place.place - 1) false) (sym c.if-is_free.ensures)) ∙ get_or_default c.args.used.now (c.loop-place.place - 1) false true l in
+    let u = sym c.if-not-used-place.false ∙ get_or_default c.args.used.now (c.loop-place.place - 1) false true l in
     (passed_used entry_of rules (vec_items c.args.self.now.entries) c.args.used.now c.loop-place.place (c.loop-place.place - 1) c.loop-place.found e l (omega arith) i.0 u, omega arith, omega arith)
+
+pub returns : goal.returns
+returns c =
+    let i = c.loop-place.invariant in
+    let e : c.loop-place.place ≡ 0 = omega arith in
+    i.0 ∙ ap (From rules c.args.used.now (entries_of c.args.self.now)) e ∙ from_all rules c.args.used.now (entries_of c.args.self.now)

@@ -6,6 +6,3 @@ use Rattle.cache.proofs.store.Cache.soonest.Given as goal
 
 abbrev pub invariant-loop-place : goal.invariant-loop-place
 invariant-loop-place l = (l.found ≡ From rules l.used (entries_of l.self) l.place) × (l.place ≤ length l.used) × (l.place ≤ vec_len l.self.entries)
-
-abbrev pub decreases-loop-place : goal.decreases-loop-place
-decreases-loop-place l = l.place
