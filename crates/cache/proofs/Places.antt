@@ -49,6 +49,3 @@ module _ {X : Type 0} (f : X → Entry) (xs : List X) where
 
   pub got : (i m : ℕ) (x : X) → i < m → m ≡ length xs → x ≡ get_or xs i x → Some (f x) ≡ slice_get (map f xs) i
   got i m x l n e = let h = length-map xs f in sym (slice_get-get_or (map f xs) i (f x) (omega arith) ∙ ap Some (read_at i x (omega arith) e (f x)))
-
-  pub got_none : (i : ℕ) → length xs ≤ i → None ≡ slice_get (map f xs) i
-  got_none i l = let h = length-map xs f in sym (slice_get_past (map f xs) i (omega arith))

@@ -104,9 +104,6 @@ module _ (r : Rules) where
 -- ---- as the code reads it
 
 module _ {X : Type 0} (f : X → Entry) (r : Rules) (xs : List X) where
-  pub chose : (i j : ℕ) (x y : X) (b : Bool) → i < length xs → j < length xs → x ≡ get_or xs j x → y ≡ get_or xs i y → b ≡ sooner r (f x) (f y) → (d : Entry) → cond b (Some j) (Some i) ≡ first_of_two r d (map f xs) i (Some j)
-  chose i j x y b l m e g h d = ap (λ t. cond t (Some j) (Some i)) (h ∙ sym (λ t. sooner r (read_at f xs j x m e d t) (read_at f xs i y l g d t)))
-
   abbrev pub Stands : List Bool → ℕ → Option ℕ → Type 0
   Stands us i o = o ≡ From r us (map f xs) i
 

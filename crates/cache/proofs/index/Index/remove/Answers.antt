@@ -16,7 +16,3 @@ returns-in-Some c =
       room = c.remove.ensures.capacity;
     }
 
-pub invariant_of-self : goal.invariant_of-self
-invariant_of-self c =
-    let f = c.in-Some.ensures in
-    record { rising = subst Rising (sym c.remove.ensures.items) (rising_removed (hints_of c.args.self.now) c.args.self.now.rising c.in-Some.at f.0) }

@@ -7,32 +7,11 @@ use Rattle.cache.specs.Indexes.{hints_of}
 use Rattle.cache.proofs.Looking.{Hit, hit, begins, goes_on_lem, leads, leads_not, none_there}
 use Rattle.cache.proofs.store.Cache.find.Goals as goal
 
-pub loop-place-init : goal.loop-place-init
-loop-place-init c =
-    let self = c.args.self.now in
-    let key = c.args.key.now in
-    let h = c.hash-hash.ensures in
-    begins (hints_of self.index) (entries_of self) (labels key.apex) (labels key.name) key.kind.number c.first-at.result (λ m l. let q = c.first-at.ensures.below m l in omega arith) (λ m l g. let q = c.first-at.ensures.above m l g in omega arith)
-
 pub returns-then-is_at : goal.returns-then-is_at
 returns-then-is_at c =
     let self = c.args.self.now in
     let key = c.args.key.now in
     leads (entries_of self) (labels key.apex) (labels key.name) key.kind.number c.in-Some.place self.apart c.if-is_at.ensures
-
-pub overflow_add-at : goal.overflow_add-at
-overflow_add-at c =
-    let self = c.args.self.now in
-    let t = (hit (hints_of self.index) c.hash-hash.result c.loop-place.at c.in-Some.place c.in-Some.ensures).in_list in
-    let e = self.even in
-    let f = self.few in
-    omega arith
-
-pub loop-place-smaller : goal.loop-place-smaller
-loop-place-smaller c =
-    let self = c.args.self.now in
-    let t = (hit (hints_of self.index) c.hash-hash.result c.loop-place.at c.in-Some.place c.in-Some.ensures).in_list in
-    omega arith
 
 pub loop-place-preserved : goal.loop-place-preserved
 loop-place-preserved c =

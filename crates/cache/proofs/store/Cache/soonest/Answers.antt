@@ -35,8 +35,3 @@ loop-place-preserved c =
     let u = sym c.if-not-used-place.false ∙ get_or_default c.args.used.now (c.loop-place.place - 1) false true l in
     (passed_used entry_of rules (vec_items c.args.self.now.entries) c.args.used.now c.loop-place.place (c.loop-place.place - 1) c.loop-place.found e l (omega arith) i.0 u, omega arith, omega arith)
 
-pub returns : goal.returns
-returns c =
-    let i = c.loop-place.invariant in
-    let e : c.loop-place.place ≡ 0 = omega arith in
-    i.0 ∙ ap (From rules c.args.used.now (entries_of c.args.self.now)) e ∙ from_all rules c.args.used.now (entries_of c.args.self.now)
