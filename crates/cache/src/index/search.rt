@@ -1,8 +1,7 @@
 // Searching the index, which halves, and changing it.
-ghost use Rattle.std.specs.Prelude.{◌≡◌, ℕ, ◌+◌, ◌<◌, ◌≤◌, true, false, [], length, MatchOption, MatchResult, ◌≢◌};
-ghost use Rattle.std.specs.List.{slice_get};
+ghost use Rattle.std.specs.Prelude.{◌≡◌, ℕ, ◌+◌, ◌<◌, ◌≤◌, true, false, [], length, MatchOption, MatchResult, ◌≢◌, ◌==◌, filter};
 ghost use Rattle.names.specs.declared.fault.Fault.TheVariants.{NoMemory};
-ghost use Rattle.cache.specs.Hints.{hash_at, place_on, hinted, place_in};
+ghost use Rattle.cache.specs.Hints.{hash_at, place_on, hinted};
 ghost use Rattle.cache.specs.Indexes.{hints_of, room_of};
 
 use super::{Hint, Index};
@@ -19,7 +18,7 @@ impl Index {
     }
 
     // How many hints have a lower hash.
-    pub fn first(&self, hash: u64) -> usize
+    fn first(&self, hash: u64) -> usize
         ensures within { result ≤ length (hints_of self.now) }
         ensures below { (k : ℕ) → k < result → hash_at (hints_of self.now) k < hash }
         ensures above { (k : ℕ) → result ≤ k → k < length (hints_of self.now) → hash ≤ hash_at (hints_of self.now) k }
@@ -27,12 +26,13 @@ impl Index {
         self.hints.partition_point(|hint| hint.hash < hash)
     }
 
-    // The place in the hint at an index, if there is one and it has the hash.
-    pub fn place_at(&self, at: usize, hash: u64) -> Option<usize>
-        ensures { result ≡ place_in hash (slice_get (hints_of self.now) at) }
+    // The hints of a hash, which stand side by side.
+    pub fn of_hash(&self, hash: u64) -> &[Hint]
+        ensures { result.now ≡ filter (λ x. x.hash == hash) (hints_of self.now) }
     {
-        let hint = self.hints.get(at)?;
-        (hint.hash == hash).then_some(hint.place)
+        let hints = &self.hints[self.first(hash)..];
+        let count = hints.iter().take_while(|hint| hint.hash == hash).count();
+        &hints[..count]
     }
 
     // One hint more, where there is room.

@@ -50,15 +50,8 @@ impl Cache {
     pub fn find(&self, key: &Key) -> Option<usize>
         ensures { result ≡ place_of (is_key (labels key.now.apex) (labels key.now.name) key.now.kind.number) (entries_of self.now) }
     {
-        let hash = key.hash();
-        let mut at = self.index.first(hash);
-        while let Some(place) = self.index.place_at(at, hash) {
-            if self.is_at(place, key) {
-                return Some(place);
-            }
-            at += 1;
-        }
-        None
+        let mut places = self.index.of_hash(key.hash()).iter().map(|hint| hint.place);
+        places.find(|place| self.is_at(*place, key))
     }
 
     // The entry of a key with its place, if it still counts.

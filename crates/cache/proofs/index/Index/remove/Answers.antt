@@ -15,4 +15,3 @@ returns-in-Some c =
       len = ap (λ ys. length ys + 1) e ∙ length-remove xs c.in-Some.at f.0;
       room = c.remove.ensures.capacity;
     }
-

@@ -26,4 +26,3 @@ invariant_of-self c =
     let fs = ap (map entry_of) c.push_reserved.ensures.items ∙ map_push entry_of (vec_items self.entries) e in
     let there = subst (λ h. hinted h (length (entries_of self)) (hints_of c.insert.new.self) ≡ true) c.hash.ensures (subst (λ k. hinted c.hash.result k (hints_of c.insert.new.self) ≡ true) (c.len.ensures ∙ n ∙ sym m) j.there) in
     record { apart = ap one_a_key fs ∙ one_appended rules (entry_of e) (entries_of self) self.apart c.requires.0 c.requires.1; few = omega arith; room = omega arith; covered = subst (Covers (hints_of c.insert.new.self)) (sym fs) (covers_push (hints_of self.index) (hints_of c.insert.new.self) (entries_of self) (entry_of e) self.covered j.others there); even = omega arith; spare = omega arith }
-

@@ -34,4 +34,3 @@ loop-place-preserved c =
     let l : c.loop-place.place - 1 < length c.args.used.now = omega arith in
     let u = sym c.if-not-used-place.false ∙ get_or_default c.args.used.now (c.loop-place.place - 1) false true l in
     (passed_used entry_of rules (vec_items c.args.self.now.entries) c.args.used.now c.loop-place.place (c.loop-place.place - 1) c.loop-place.found e l (omega arith) i.0 u, omega arith, omega arith)
-
