@@ -10,10 +10,9 @@ use Rattle.machine.specs.Store.{place_of, one_a_key}
 use Rattle.machine.proofs.Keys.{key_so}
 use Rattle.cache.specs.declared.index.Hint.{Hint}
 use Rattle.cache.specs.Hashes.{hash_of}
-use Rattle.cache.specs.Hints.{is_hint, hinted, hash_at, Rising, nobody, hash_for, Covers}
+use Rattle.cache.specs.Hints.{is_hint, hinted, hash_at, nobody, hash_for, Covers}
 use Rattle.cache.specs.Caches.{key_at}
 use Rattle.cache.proofs.Places.{probe, place_of_lem, no_place}
-use Rattle.cache.proofs.Hinting.{far}
 
 -- ---- the hints of a hash
 

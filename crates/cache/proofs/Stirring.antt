@@ -1,5 +1,5 @@
 -- Hashes, byte by byte and label by label.
-use Rattle.std.proofs.Common.{◌≡◌, ℕ, ◌+◌, ◌<◌, ◌≤◌, ◌⊎◌, List, [], ◌∷◌, ◌++◌, length, get_or, drop, Some, None, sym, refl, ap, ◌∙◌, inl, inr}
+use Rattle.std.proofs.Common.{◌≡◌, ℕ, ◌+◌, ◌<◌, ◌≤◌, ◌⊎◌, List, [], ◌∷◌, ◌++◌, length, get_or, drop, Some, sym, refl, ap, ◌∙◌, inl, inr}
 use Rattle.std.specs.List.{slice_get}
 use Rattle.std.proofs.lemmas.List.{drop_more, drop_all}
 use Rattle.std.proofs.lemmas.Option.{slice_get-get_or, slice_get_past}
@@ -20,14 +20,6 @@ stirred_more h (c ∷ cs) b = stirred_more (stirred h c) cs b
 pub none_left : (h i : ℕ) (ls : List (List ℕ)) → length ls ≤ i → stirred_name h (drop i ls) ≡ h
 unfolding stirred_name
 none_left h i ls l = ap (stirred_name h) (drop_all i ls l)
-
-pub past_labels : (h i : ℕ) (ls : List (List ℕ)) → None ≡ slice_get ls i → stirred_name h (drop i ls) ≡ h
-unfolding stirred_name
-past_labels h i ls e = go (cases_lt i (length ls))
-  where
-    go : (i < length ls) ⊎ (length ls ≤ i) → stirred_name h (drop i ls) ≡ h
-    go (inl l) = absurd (some_none (get_or ls i []) (e ∙ slice_get-get_or ls i [] l))
-    go (inr l) = ap (stirred_name h) (drop_all i ls l)
 
 pub label_within : (i : ℕ) (ls : List (List ℕ)) (l : List ℕ) → Some l ≡ slice_get ls i → i < length ls
 label_within i ls l e = go (cases_lt i (length ls))

@@ -1,5 +1,5 @@
 -- Hints: which there are of a hash and place, and that they are there for every entry. Assumes nothing.
-use Rattle.std.specs.Prelude.{◌≡◌, ℕ, ◌+◌, ◌<◌, ◌≤◌, Bool, true, cond, ◌&&◌, List, [], length, get_or, Some, None, Option, ◌==◌, slice_index_or}
+use Rattle.std.specs.Prelude.{◌≡◌, ℕ, ◌+◌, ◌<◌, ◌≤◌, Bool, true, ◌&&◌, List, [], length, get_or, ◌==◌, slice_index_or}
 use Rattle.meaning.specs.Speech.{Empty}
 use Rattle.protocol.specs.Lists.{any}
 use Rattle.protocol.specs.World.{Entry}

@@ -21,6 +21,7 @@ fn stir_all(start: u64, bytes: &[u8]) -> u64
     bytes.iter().fold(start, |hash, byte| stir(hash, *byte))
 }
 
+// A loop over depths, since a name hands out its labels one by one.
 fn stir_name(start: u64, name: &Name) -> u64
     ensures { result ≡ stirred_name start (labels name.now) }
 {

@@ -5,7 +5,7 @@ ghost use Rattle.meaning.specs.Says.{same};
 ghost use Rattle.protocol.specs.World.{until, counts, is_key};
 ghost use Rattle.protocol.specs.Walks.{left};
 ghost use Rattle.machine.specs.Store.{sooner};
-ghost use Rattle.cache.specs.Entries.{entry_of, rules};
+ghost use Rattle.cache.specs.Entries.{entry_of, rules, turn_of};
 
 use super::{Entry, Key};
 use crate::word::Moment;
@@ -44,11 +44,18 @@ impl Entry {
         self.until().saturating_sub(u128::from(moment.0))
     }
 
+    // Of two entries, the one of the lower turn is forgotten first.
+    pub(crate) fn turn(&self) -> (u128, Moment)
+        ensures { result ≡ turn_of (entry_of self.now) }
+    {
+        (self.until(), self.numbers.heard)
+    }
+
     // Whether it runs out before another; of two that run out together, whether it was heard first.
     pub fn is_sooner(&self, other: &Entry) -> bool
         ensures { result ≡ sooner rules (entry_of self.now) (entry_of other.now) }
     {
-        (self.until(), self.numbers.heard) < (other.until(), other.numbers.heard)
+        self.turn() < other.turn()
     }
 
     pub fn has_key(&self, key: &Key) -> bool

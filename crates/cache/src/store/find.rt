@@ -69,7 +69,6 @@ impl Cache {
         ensures entry { onto (slice_get (entries_of self.now)) result ≡ remembered rules moment.0 (entries_of self.now) key.now.kind.number (labels key.now.apex) (labels key.now.name) }
         ensures place { IfSome result (λ i. i < length (entries_of self.now)) }
     {
-        let (place, _) = self.recall_entry(moment, key)?;
-        Some(place)
+        self.recall_entry(moment, key).map(|(place, _)| place)
     }
 }

@@ -22,28 +22,14 @@ pub enum Stored {
 }
 
 impl Cache {
-    // Of the entry at a place and one behind it, the one that runs out first.
-    fn first_out(&self, place: usize, behind: Option<usize>) -> usize
-        requires { (place < vec_len self.now.entries) × (IfSome behind (λ j. j < vec_len self.now.entries)) }
-        ensures { (d : world.Entry) → Some result ≡ first_of_two rules d (entries_of self.now) place behind }
-    {
-        match behind {
-            Some(other) if self.entries[other].is_sooner(&self.entries[place]) => other,
-            _ => place,
-        }
-    }
-
     // Where the entry stands that runs out first, of those not in use; a place without a flag counts as in use.
     fn soonest(&self, used: &[bool]) -> Option<usize>
         ensures { result ≡ soonest_by rules used.now (entries_of self.now) }
     {
-        let mut found = None;
-        for place in (0..self.entries.len().min(used.len())).rev() {
-            if !used[place] {
-                found = Some(self.first_out(place, found));
-            }
-        }
-        found
+        let entries = self.entries.iter().zip(used).enumerate();
+        let free = entries.filter(|(_, (_, used))| !**used);
+        let turns = free.map(|(place, (entry, _))| (entry.turn(), place));
+        turns.min().map(|(_, place)| place)
     }
 
     // In the place of the entry of the same key.

@@ -1,8 +1,7 @@
 use Rattle.std.proofs.Common.{◌+◌, drop, sym, ap, ◌∙◌, arith}
 use Rattle.names.specs.Names.{labels}
-use Rattle.std.specs.Option.{option_map}
 use Rattle.cache.specs.Hashes.{stirred_all, stirred_name}
-use Rattle.cache.proofs.Stirring.{label_stirred, past_labels, none_left}
+use Rattle.cache.proofs.Stirring.{label_stirred, none_left}
 use Rattle.cache.proofs.entry.hash.stir_name.Goals as goal
 
 pub loop-depth-preserved : goal.loop-depth-preserved

@@ -1,4 +1,4 @@
-use Rattle.std.proofs.Common.{◌<◌, ◌≤◌, length, ltb, ltb-true, ltb-false, sym, ap, subst, arith, rules}
+use Rattle.std.proofs.Common.{◌<◌, ◌≤◌, length, ltb, ltb-true, ltb-false, sym, subst, arith, rules}
 use Rattle.std.proofs.lemmas.List.Sorted.{IsPartitionPoint-from_clause, IsPartitionedBy-ltb}
 use Rattle.cache.specs.Hints.{hash_in, hash_at, Rising}
 use Rattle.cache.proofs.Hinting.{blank, ordered}

@@ -1,8 +1,8 @@
-use Rattle.std.proofs.Common.{length, is_ok, vec_items, sym, ap, ◌∙◌, subst, arith}
+use Rattle.std.proofs.Common.{length, is_ok, vec_items, ap, ◌∙◌, arith}
 use Rattle.std.proofs.lemmas.List.Edits.{length-insert}
-use Rattle.cache.specs.Hints.{hinted, Rising}
+use Rattle.cache.specs.Hints.{hinted}
 use Rattle.cache.specs.Indexes.{hints_of}
-use Rattle.cache.proofs.Hinting.{was_inserted, rising_inserted, hinted_inserted, hinted_new}
+use Rattle.cache.proofs.Hinting.{was_inserted, hinted_inserted, hinted_new}
 use Rattle.cache.proofs.index.Index.insert.Goals as goal
 
 pub returns : goal.returns

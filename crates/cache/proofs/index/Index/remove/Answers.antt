@@ -1,8 +1,8 @@
-use Rattle.std.proofs.Common.{◌+◌, length, sym, ap, ◌∙◌, subst}
+use Rattle.std.proofs.Common.{◌+◌, length, ap, ◌∙◌}
 use Rattle.std.proofs.lemmas.List.Edits.{length-remove}
-use Rattle.cache.specs.Hints.{hinted, Rising}
+use Rattle.cache.specs.Hints.{hinted}
 use Rattle.cache.specs.Indexes.{hints_of}
-use Rattle.cache.proofs.Hinting.{rising_removed, hinted_removed}
+use Rattle.cache.proofs.Hinting.{hinted_removed}
 use Rattle.cache.proofs.index.Index.remove.Goals as goal
 
 pub returns-in-Some : goal.returns-in-Some

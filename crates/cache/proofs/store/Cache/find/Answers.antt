@@ -5,7 +5,6 @@ use Rattle.std.proofs.lemmas.Iterator.{YieldsList-from_slice, YieldsList-from_ma
 use Rattle.std.proofs.lemmas.Iterator.Search.{find_from_yields_List}
 use Rattle.names.specs.Names.{labels}
 use Rattle.cache.specs.declared.index.Hint.{Hint}
-use Rattle.cache.specs.Hashes.{hash_of}
 use Rattle.cache.specs.Caches.{entries_of}
 use Rattle.cache.specs.Indexes.{hints_of}
 use Rattle.cache.proofs.Looking.{has, test, looked}

@@ -1,5 +1,4 @@
 use Rattle.std.proofs.Common.{◌≡◌, true, get_or, vec_items, sym, ap, ◌∙◌, subst, arith}
-use lib.ListN.{length-map}
 use Rattle.std.proofs.lemmas.List.{map-set}
 use Rattle.machine.specs.Store.{one_a_key}
 use Rattle.cache.specs.Entries.{entry_of, rules}
