@@ -1,5 +1,5 @@
 -- The turns of the loop that walks.
-use Rattle.std.proofs.Common.{◌≡◌, ℕ, suc, ◌+◌, ◌-◌, ◌<◌, ltb, List, [], ◌∷◌, ◌++◌, map, length, Some, None, Option, sym, refl, ap, ◌∙◌, append_assoc, append-nil, arith, length-append}
+use Rattle.std.proofs.Common.{◌≡◌, ℕ, suc, ◌+◌, ltb, List, [], ◌∷◌, ◌++◌, map, length, Some, None, Option, sym, refl, ap, ◌∙◌, append_assoc, append-nil, arith, length-append}
 use mathlib.Core.List.{map-append}
 use Rattle.std.specs.List.{slice_get}
 use Rattle.meaning.specs.Speech.{Said, Found, AliasTo, Referred, Empty, Absent}
