@@ -69,9 +69,7 @@ impl Way {
                 least,
                 referral: Some(place),
             }),
-            Said::Data(_) => None,
-            Said::NoData => None,
-            Said::NoName => None,
+            Said::Data(_) | Said::NoData | Said::NoName => None,
         }
     }
 }

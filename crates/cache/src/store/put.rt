@@ -1,10 +1,9 @@
 // Putting an entry in, and what is forgotten for it.
-ghost use Rattle.std.specs.Prelude.{◌≡◌, ◌<◌, false, not, [], ◌∷◌, ◌++◌, length, IfSome, Some, None, vec_len, slice_index_or, slice_set};
-ghost use Rattle.protocol.specs.World as world;
+ghost use Rattle.std.specs.Prelude.{◌≡◌, ◌<◌, [], ◌∷◌, ◌++◌, length, Some, None, slice_set};
 ghost use Rattle.protocol.specs.World.{is_key};
 ghost use Rattle.machine.specs.Store.{max_entries, place_of};
 ghost use Rattle.cache.specs.Entries.{entry_of, rules};
-ghost use Rattle.cache.specs.Flags.{soonest_by, put_by, first_of_two, FlagsLaws};
+ghost use Rattle.cache.specs.Flags.{soonest_by, put_by, FlagsLaws};
 ghost use Rattle.cache.specs.Caches.{entries_of, Puts};
 
 use super::{Cache, MAX_ENTRIES};

@@ -22,9 +22,8 @@ impl Trace {
         ensures { places_of self.new ≡ one_place place (places_of self.old) }
     {
         if self.count < MAX_STEPS {
-            let count = self.count;
-            self.places[count] = place;
-            self.count = count + 1;
+            self.places[self.count] = place;
+            self.count += 1;
         }
     }
 
