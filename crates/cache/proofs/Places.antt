@@ -1,11 +1,11 @@
 -- Places of keys in a list in which no two entries have one key.
-use Rattle.std.proofs.Common.{◌≡◌, ℕ, zero, suc, ◌<◌, ◌≤◌, Bool, true, false, List, [], ◌∷◌, map, length, get_or, Some, None, sym, refl, ap, ◌∙◌, arith}
+use Rattle.std.proofs.Common.{◌≡◌, ℕ, zero, suc, ◌<◌, Bool, true, false, List, [], ◌∷◌, map, length, get_or, Some, None, sym, refl, ap, ◌∙◌, arith}
 use mathlib.Core.List.{Memᴰ}
 use lib.ListN.{length-map}
 use Rattle.std.specs.Option.{option_map}
 use Rattle.std.specs.List.{slice_get}
 use Rattle.std.proofs.lemmas.List.{get_or-map}
-use Rattle.std.proofs.lemmas.Option.{slice_get-get_or, slice_get_past}
+use Rattle.std.proofs.lemmas.Option.{slice_get-get_or}
 use Rattle.meaning.specs.Speech.{Empty}
 use Rattle.protocol.specs.World.{Entry}
 use Rattle.machine.specs.Store.{place_of, one_a_key}
@@ -49,6 +49,3 @@ module _ {X : Type 0} (f : X → Entry) (xs : List X) where
 
   pub got : (i m : ℕ) (x : X) → i < m → m ≡ length xs → x ≡ get_or xs i x → Some (f x) ≡ slice_get (map f xs) i
   got i m x l n e = let h = length-map xs f in sym (slice_get-get_or (map f xs) i (f x) (omega arith) ∙ ap Some (read_at i x (omega arith) e (f x)))
-
-  pub got_none : (i : ℕ) → length xs ≤ i → None ≡ slice_get (map f xs) i
-  got_none i l = let h = length-map xs f in sym (slice_get_past (map f xs) i (omega arith))

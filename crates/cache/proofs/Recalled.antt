@@ -1,8 +1,10 @@
 -- The entry of a key, if it still counts.
-use Rattle.std.proofs.Common.{◌≡◌, ℕ, ◌<◌, Bool, true, false, cond, ◌&&◌, List, [], ◌∷◌, map, length, get_or, Some, None, sym, refl, ap, ◌∙◌, arith}
+use Rattle.std.proofs.Common.{◌≡◌, ℕ, ◌<◌, Bool, true, false, cond, ◌&&◌, List, [], ◌∷◌, map, length, get_or, IfSome, Some, None, sym, refl, ap, ◌∙◌, arith}
 use mathlib.Core.List.{Memᴰ}
 use lib.ListN.{length-map}
+use Rattle.std.specs.Bool.{then_some}
 use Rattle.std.specs.List.{slice_get}
+use Rattle.std.specs.Option.{option_map}
 use Rattle.std.proofs.lemmas.Bool.{and_left, and_right, and_from}
 use Rattle.protocol.specs.Lists.{first}
 use Rattle.protocol.specs.World.{Entry, is_key}
@@ -47,8 +49,15 @@ module _ {X : Type 0} (f : X → Entry) (xs : List X) (counts : Entry → Bool) 
         by_placed counts (is_key a n k) (map f xs) i (f x) (placed (probe a n k) (map f xs) i o (sym h))
         ∙ (λ t. cond (counts (r t)) (Some (r t)) None) ∙ ap (λ t. cond t (Some (f x)) None) (sym c)
 
-    pub it_counts : (x : X) → x ≡ get_or xs i x → true ≡ counts (f x) → slice_get (map f xs) i ≡ first (λ e. counts e && is_key a n k e) (map f xs)
-    it_counts x e c = sym (got f xs i (length xs) x key_within refl e) ∙ sym (recalled x true e c)
+    -- what is handed out of the entry read there, by what g reads of that
+    module _ {Y : Type 0} (g : Y → X) (v : Y) (e : g v ≡ get_or xs i (g v)) where
+      pub recalled_of : (b : Bool) → b ≡ counts (f (g v)) → option_map (λ y. f (g y)) (then_some b v) ≡ first (λ e. counts e && is_key a n k e) (map f xs)
+      recalled_of b c = go b ∙ sym (recalled (g v) b e c)
+        where
+          go : (t : Bool) → option_map (λ y. f (g y)) (then_some t v) ≡ cond t (Some (f (g v))) None
+          go true = refl
+          go false = refl
 
-    pub it_ran_out : (x : X) → x ≡ get_or xs i x → false ≡ counts (f x) → None ≡ first (λ e. counts e && is_key a n k e) (map f xs)
-    it_ran_out x e c = sym (recalled x false e c)
+      pub placed_of : (place : Y → ℕ) → place v ≡ i → (b : Bool) → IfSome (then_some b v) (λ y. slice_get (map f xs) (place y) ≡ Some (f (g y)))
+      placed_of place p true = ap (slice_get (map f xs)) p ∙ sym (got f xs i (length xs) (g v) key_within refl e)
+      placed_of place p false = tt

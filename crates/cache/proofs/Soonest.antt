@@ -1,27 +1,26 @@
--- The entry that runs out first, looked for from the last place to the first.
-use Rattle.std.proofs.Common.{◌≡◌, ℕ, suc, ◌+◌, ◌<◌, ◌≤◌, min, Bool, true, false, cond, ltb, ◌⊎◌, List, [], ◌∷◌, ◌++◌, map, length, get_or, drop, IfSome, Some, None, Option, sym, refl, ap, ◌∙◌, subst, inl, inr, ⊎_elim, arith, length-drop}
-use lib.ListN.{length-map}
+-- The entry whose turn is first, of those not in use.
+use Rattle.std.proofs.Common.{◌≡◌, ℕ, suc, ◌+◌, ◌<◌, Bool, true, false, not, cond, ltb, eqb, ◌&&◌, ◌||◌, ◌⊎◌, List, [], ◌∷◌, ◌++◌, map, length, get_or, Some, None, Option, sym, refl, ap, ◌∙◌, subst, inl, inr, true≢false, arith}
+use Rattle.std.specs.declared.cmp.Ordering.{Ordering}
+use Rattle.std.specs.declared.cmp.Ordering.TheVariants.{Less, Equal, Greater}
+use Rattle.std.specs.Ordering.{nat_cmp, ordering_then, ordering_reverse, min_by_ordering, is_gt}
+use Rattle.std.specs.Cmp.{IsTotalOrder}
+use Rattle.std.specs.List.{filter, zip, enumerate_from, fold, reduce}
 use Rattle.std.specs.Option.{option_map}
-use Rattle.std.proofs.lemmas.List.{drop_more, drop_all, get_or-drop, get_or_default}
-use Rattle.std.proofs.lemmas.Bool.{cases_lt}
-use Rattle.protocol.specs.World.{Rules, Entry, is_key}
+use Rattle.std.proofs.lemmas.Cmp.{upto, nat_cmp_total, on_total, then_total}
+use Rattle.std.proofs.lemmas.List.{get_or_default}
+use Rattle.std.proofs.lemmas.Bool.Decides.{nat_tests}
+use Rattle.protocol.specs.World.{Rules, Entry, is_key, until}
 use Rattle.machine.specs.Store.{max_entries, place_of, sooner, pick, soonest, Kept, oust, put_at, put}
-use Rattle.cache.proofs.Places.{probe, read_at}
-use Rattle.cache.specs.Flags.{soonest_by, put_by_at, put_by, first_of_two, FlagsLaws}
+use Rattle.cache.specs.declared.entry.Entry as rust
+use Rattle.cache.specs.declared.word.Moment.{Moment}
+use Rattle.cache.specs.Entries.{entry_of, rules, turn_of}
+use Rattle.cache.specs.Flags.{soonest_by, put_by_at, put_by, FlagsLaws}
+use Rattle.cache.proofs.Places.{probe}
 
 blank : Entry
 blank = probe [] [] 0
 
 module _ (r : Rules) where
-  no_entries : (us : List Bool) → soonest_by r us [] ≡ None
-  unfolding soonest_by
-  no_entries [] = refl
-  no_entries (u ∷ us) = refl
-
-  by_head : (u : Bool) (us : List Bool) (e : Entry) (es : List Entry) → soonest_by r (u ∷ us) (e ∷ es) ≡ cond u (option_map suc (soonest_by r us es)) (pick r e es (soonest_by r us es))
-  unfolding soonest_by
-  by_head u us e es = refl
-
   abbrev Within : List Entry → Option ℕ → Type 0
   Within es None = Unit {0}
   Within es (Some j) = j < length es
@@ -59,77 +58,124 @@ module _ (r : Rules) where
   put_by_use used e es (Some i) = refl
   put_by_use used e es None = ap (λ o. cond (ltb (length es) max_entries) (Kept (es ++ (e ∷ []))) (oust e es o)) (by_use used es)
 
-  -- ---- what was found from a place on
+-- ---- the lesser of two, of a total order, from the front on and from the back on
 
-  abbrev pub From : List Bool → List Entry → ℕ → Option ℕ
-  From us es i = option_map (λ j. i + j) (soonest_by r (drop i us) (drop i es))
+gt_cases : (o : Ordering) → (o ≡ Greater) ⊎ (is_gt o ≡ false)
+gt_cases Less = inr refl
+gt_cases Equal = inr refl
+gt_cases Greater = inl refl
 
-  pub from_end : (us : List Bool) (es : List Entry) (i : ℕ) → (length us ≤ i) ⊎ (length es ≤ i) → None ≡ From us es i
-  unfolding soonest_by
-  from_end us es i (inl l) = sym (ap (λ xs. option_map (λ j. i + j) (soonest_by r xs (drop i es))) (drop_all i us l))
-  from_end us es i (inr l) = sym (ap (λ xs. option_map (λ j. i + j) (soonest_by r (drop i us) xs)) (drop_all i es l) ∙ ap (option_map (λ j. i + j)) (no_entries (drop i us)))
+module _ {K : Type 0} {R : K → K → Ordering} (o : IsTotalOrder R) where
+  abbrev lesser : K → K → K
+  lesser x y = min_by_ordering (R x y) x y
 
-  pub from_all : (us : List Bool) (es : List Entry) → From us es 0 ≡ soonest_by r us es
-  from_all us es = go (soonest_by r us es)
+  keeps : (x y : K) → is_gt (R x y) ≡ false → lesser x y ≡ x
+  keeps x y = go (R x y)
     where
-      go : (o : Option ℕ) → option_map (λ j. 0 + j) o ≡ o
+      go : (r : Ordering) → is_gt r ≡ false → min_by_ordering r x y ≡ x
+      go Less e = refl
+      go Equal e = refl
+      go Greater e = absurd (true≢false e)
+
+  takes : (x y : K) → R x y ≡ Greater → lesser x y ≡ y
+  takes x y e = ap (λ r. min_by_ordering r x y) e
+
+  above : (x y z : K) → R x y ≡ Greater → R y z ≡ Greater → R x z ≡ Greater
+  above x y z a b =
+      let back = o.trans z y x (o.antisymm z y ∙ ap ordering_reverse b) (o.antisymm y x ∙ ap ordering_reverse a) in
+      o.antisymm x z ∙ ap ordering_reverse back
+
+  assoc : (x y z : K) → lesser (lesser x y) z ≡ lesser x (lesser y z)
+  assoc x y z = go (gt_cases (R x y)) (gt_cases (R y z))
+    where
+      go : (R x y ≡ Greater) ⊎ (is_gt (R x y) ≡ false) → (R y z ≡ Greater) ⊎ (is_gt (R y z) ≡ false) → lesser (lesser x y) z ≡ lesser x (lesser y z)
+      go (inr a) (inr b) = ap (λ t. lesser t z) (keeps x y a) ∙ keeps x z (upto o x y z a b) ∙ sym (ap (lesser x) (keeps y z b) ∙ keeps x y a)
+      go (inr a) (inl b) = ap (λ t. lesser t z) (keeps x y a) ∙ sym (ap (lesser x) (takes y z b))
+      go (inl a) (inr b) = ap (λ t. lesser t z) (takes x y a) ∙ keeps y z b ∙ sym (ap (lesser x) (keeps y z b) ∙ takes x y a)
+      go (inl a) (inl b) = ap (λ t. lesser t z) (takes x y a) ∙ takes y z b ∙ sym (ap (lesser x) (takes y z b) ∙ takes x z (above x y z a b))
+
+  abbrev joined : K → Option K → K
+  joined x None = x
+  joined x (Some z) = lesser x z
+
+  abbrev least : List K → Option K
+  least [] = None
+  least (x ∷ xs) = Some (joined x (least xs))
+
+  folded : (x : K) (ys : List K) → fold lesser x ys ≡ joined x (least ys)
+  folded x [] = refl
+  folded x (y ∷ ys) = folded (lesser x y) ys ∙ go (least ys)
+    where
+      go : (m : Option K) → joined (lesser x y) m ≡ joined x (Some (joined y m))
       go None = refl
-      go (Some j) = ap Some (omega arith)
+      go (Some z) = assoc x y z
 
-  module _ (us : List Bool) (es : List Entry) (i : ℕ) (in-us : i < length us) (in-es : i < length es) (d : Entry) where
-    opened : (u : Bool) → u ≡ get_or us i u → soonest_by r (drop i us) (drop i es) ≡ cond u (option_map suc (soonest_by r (drop (i + 1) us) (drop (i + 1) es))) (pick r (get_or es i d) (drop (i + 1) es) (soonest_by r (drop (i + 1) us) (drop (i + 1) es)))
-    opened u e = (λ t. soonest_by r (drop_more us i u in-us t) (drop_more es i d in-es t)) ∙ by_head (get_or us i u) (drop (i + 1) us) (get_or es i d) (drop (i + 1) es) ∙ ap (λ b. cond b (option_map suc (soonest_by r (drop (i + 1) us) (drop (i + 1) es))) (pick r (get_or es i d) (drop (i + 1) es) (soonest_by r (drop (i + 1) us) (drop (i + 1) es)))) (sym e)
+  reduced : (xs : List K) → reduce lesser xs ≡ least xs
+  reduced [] = refl
+  reduced (x ∷ xs) = ap Some (folded x xs)
 
-    moved : (o : Option ℕ) → option_map (λ j. i + 1 + j) o ≡ option_map (λ j. i + j) (option_map suc o)
+-- ---- turns
+
+abbrev Turn : Type 0
+Turn = (ℕ × Moment) × ℕ
+
+abbrev by_turn : Turn → Turn → Ordering
+by_turn x y = ordering_then (ordering_then (nat_cmp x.0.0 y.0.0) (nat_cmp x.0.1.0 y.0.1.0)) (nat_cmp x.1 y.1)
+
+total : IsTotalOrder by_turn
+total = then_total (then_total (on_total (λ (t : Turn). t.0.0) nat_cmp_total) (on_total (λ (t : Turn). t.0.1.0) nat_cmp_total)) (on_total (λ (t : Turn). t.1) nat_cmp_total)
+
+abbrev turn_at : Entry → ℕ → Turn
+turn_at e i = (turn_of e, i)
+
+numbers : {X : Type 0} (a b c d i j : ℕ) (x y : X) → i < j → min_by_ordering (ordering_then (ordering_then (nat_cmp a b) (nat_cmp c d)) (nat_cmp i j)) x y ≡ cond (ltb b a || (eqb b a && ltb d c)) y x
+numbers a b c d i j x y l = grind (arith, nat_tests)
+
+-- the one behind is taken only where it runs out sooner
+later : (e f : Entry) (i j : ℕ) → i < j → lesser total (turn_at e i) (turn_at f j) ≡ cond (sooner rules f e) (turn_at f j) (turn_at e i)
+later e f i j l = numbers (until rules e) (until rules f) e.heard f.heard i j (turn_at e i) (turn_at f j) l
+
+abbrev turns : List Entry → List Bool → ℕ → List Turn
+turns es us i = map (λ (p : ℕ × (Entry × Bool)). turn_at p.1.0 p.0) (filter (λ (p : ℕ × (Entry × Bool)). not p.1.1) (enumerate_from i (zip es us)))
+
+found : (us : List Bool) (es : List Entry) (i : ℕ) → least total (turns es us i) ≡ option_map (λ j. turn_at (get_or es j blank) (i + j)) (soonest_by rules us es)
+unfolding soonest_by
+found [] [] i = refl
+found (u ∷ us) [] i = refl
+found [] (e ∷ es) i = refl
+found (true ∷ us) (e ∷ es) i = found us es (i + 1) ∙ moved (soonest_by rules us es)
+  where
+    moved : (o : Option ℕ) → option_map (λ j. turn_at (get_or es j blank) (i + 1 + j)) o ≡ option_map (λ j. turn_at (get_or (e ∷ es) j blank) (i + j)) (option_map suc o)
     moved None = refl
-    moved (Some j) = ap Some (omega arith)
+    moved (Some j) = let n : i + 1 + j ≡ i + suc j = omega arith in ap (λ k. Some (turn_at (get_or es j blank) k)) n
+found (false ∷ us) (e ∷ es) i = ap (λ m. Some (joined total (turn_at e i) m)) (found us es (i + 1)) ∙ go (soonest_by rules us es) (is_within rules us es)
+  where
+    chosen : (j : ℕ) (b : Bool) → Some (cond b (turn_at (get_or es j blank) (i + 1 + j)) (turn_at e i)) ≡ option_map (λ k. turn_at (get_or (e ∷ es) k blank) (i + k)) (cond b (Some (suc j)) (Some 0))
+    chosen j true = let n : i + 1 + j ≡ i + suc j = omega arith in ap (λ k. Some (turn_at (get_or es j blank) k)) n
+    chosen j false = let n : i ≡ i + 0 = omega arith in ap (λ k. Some (turn_at e k)) n
 
-    pub from_used : true ≡ get_or us i true → From us es (i + 1) ≡ From us es i
-    from_used u = moved (soonest_by r (drop (i + 1) us) (drop (i + 1) es)) ∙ sym (ap (option_map (λ j. i + j)) (opened true u))
+    go : (o : Option ℕ) → Within rules es o → Some (joined total (turn_at e i) (option_map (λ j. turn_at (get_or es j blank) (i + 1 + j)) o)) ≡ option_map (λ j. turn_at (get_or (e ∷ es) j blank) (i + j)) (pick rules e es o)
+    go None w = let n : i ≡ i + 0 = omega arith in ap (λ k. Some (turn_at e k)) n
+    go (Some j) w =
+        ap Some (later e (get_or es j blank) i (i + 1 + j) (omega arith)) ∙ chosen j (sooner rules (get_or es j blank) e)
+        ∙ ap (λ f. option_map (λ k. turn_at (get_or (e ∷ es) k blank) (i + k)) (cond (sooner rules f e) (Some (suc j)) (Some 0))) (get_or_default es j blank e w)
 
-    picked : (o : Option ℕ) → Within (drop (i + 1) es) o → first_of_two r d es i (option_map (λ j. i + 1 + j) o) ≡ option_map (λ j. i + j) (pick r (get_or es i d) (drop (i + 1) es) o)
-    picked None h = ap Some (omega arith)
-    picked (Some j) h =
-        let e = get_or es i d in
-        let same : get_or es (i + 1 + j) d ≡ get_or (drop (i + 1) es) j e = sym (get_or-drop (i + 1) es j d) ∙ get_or_default (drop (i + 1) es) j d e h in
-        ap (λ x. cond (sooner r x e) (Some (i + 1 + j)) (Some i)) same ∙ chosen (sooner r (get_or (drop (i + 1) es) j e) e)
-      where
-        chosen : (b : Bool) → cond b (Some (i + 1 + j)) (Some i) ≡ option_map (λ m. i + m) (cond b (Some (suc j)) (Some 0))
-        chosen true = ap Some (omega arith)
-        chosen false = ap Some (omega arith)
+-- as the code reads it
+pub soonest_turn : (us : List Bool) (xs : List rust.Entry) → option_map (λ (t : Turn). t.1) (reduce (λ x y. min_by_ordering (by_turn x y) x y) (map (λ (p : ℕ × (rust.Entry × Bool)). turn_at (entry_of p.1.0) p.0) (filter (λ (p : ℕ × (rust.Entry × Bool)). not p.1.1) (enumerate_from 0 (zip xs us))))) ≡ soonest_by rules us (map entry_of xs)
+soonest_turn us xs =
+    ap (λ ts. option_map (λ (t : Turn). t.1) (reduce (lesser total) ts)) (fused us xs 0)
+    ∙ ap (option_map (λ (t : Turn). t.1)) (reduced total (turns (map entry_of xs) us 0) ∙ found us (map entry_of xs) 0)
+    ∙ go (soonest_by rules us (map entry_of xs))
+  where
+    fused : (us : List Bool) (xs : List rust.Entry) (i : ℕ) → map (λ (p : ℕ × (rust.Entry × Bool)). turn_at (entry_of p.1.0) p.0) (filter (λ (p : ℕ × (rust.Entry × Bool)). not p.1.1) (enumerate_from i (zip xs us))) ≡ turns (map entry_of xs) us i
+    fused us [] i = refl
+    fused [] (x ∷ xs) i = refl
+    fused (true ∷ us) (x ∷ xs) i = fused us xs (i + 1)
+    fused (false ∷ us) (x ∷ xs) i = ap (λ ts. turn_at (entry_of x) i ∷ ts) (fused us xs (i + 1))
 
-    pub from_unused : false ≡ get_or us i false → first_of_two r d es i (From us es (i + 1)) ≡ From us es i
-    from_unused u = picked (soonest_by r (drop (i + 1) us) (drop (i + 1) es)) (is_within (drop (i + 1) us) (drop (i + 1) es)) ∙ sym (ap (option_map (λ j. i + j)) (opened false u))
-
--- ---- as the code reads it
-
-module _ {X : Type 0} (f : X → Entry) (r : Rules) (xs : List X) where
-  pub chose : (i j : ℕ) (x y : X) (b : Bool) → i < length xs → j < length xs → x ≡ get_or xs j x → y ≡ get_or xs i y → b ≡ sooner r (f x) (f y) → (d : Entry) → cond b (Some j) (Some i) ≡ first_of_two r d (map f xs) i (Some j)
-  chose i j x y b l m e g h d = ap (λ t. cond t (Some j) (Some i)) (h ∙ sym (λ t. sooner r (read_at f xs j x m e d t) (read_at f xs i y l g d t)))
-
-  abbrev pub Stands : List Bool → ℕ → Option ℕ → Type 0
-  Stands us i o = o ≡ From r us (map f xs) i
-
-  pub at_end : (us : List Bool) (i n : ℕ) → n ≡ length xs → i ≡ min n (length us) → Stands us i None
-  at_end us i n l m = let h = length-map xs f in from_end r us (map f xs) i (⊎_elim (λ (q : length us < n). inl (omega arith)) (λ (q : n ≤ length us). inr (omega arith)) (cases_lt (length us) n))
-
-  pub passed_used : (us : List Bool) (p i : ℕ) (o : Option ℕ) → i + 1 ≡ p → i < length us → i < length xs → Stands us p o → true ≡ get_or us i true → Stands us i o
-  passed_used us p i o q l m h u =
-      let n = length-map xs f in
-      h ∙ ap (From r us (map f xs)) (sym q) ∙ from_used r us (map f xs) i l (omega arith) blank u
-
-  pub took_unused : (us : List Bool) (p i : ℕ) (o : Option ℕ) (j : ℕ) → i + 1 ≡ p → i < length us → i < length xs → Stands us p o → false ≡ get_or us i false → ((d : Entry) → Some j ≡ first_of_two r d (map f xs) i o) → Stands us i (Some j)
-  took_unused us p i o j q l m h u g =
-      let n = length-map xs f in
-      g blank ∙ ap (first_of_two r blank (map f xs) i) (h ∙ ap (From r us (map f xs)) (sym q)) ∙ from_unused r us (map f xs) i l (omega arith) blank u
-
-  -- what was found is a place
-  pub stands_within : (us : List Bool) (p n : ℕ) (o : Option ℕ) → n ≡ length xs → p ≤ n → Stands us p o → IfSome o (λ j. j < n)
-  stands_within us p n o k l h = subst (λ x. IfSome x (λ j. j < n)) (sym h) (go (soonest_by r (drop p us) (drop p (map f xs))) (is_within r (drop p us) (drop p (map f xs))))
-    where
-      go : (x : Option ℕ) → Within r (drop p (map f xs)) x → IfSome (option_map (λ j. p + j) x) (λ j. j < n)
-      go None q = tt
-      go (Some j) q = let m = length-map xs f in let e = length-drop p (map f xs) in omega arith
+    go : (o : Option ℕ) → option_map (λ (t : Turn). t.1) (option_map (λ j. turn_at (get_or (map entry_of xs) j blank) (0 + j)) o) ≡ o
+    go None = refl
+    go (Some j) = ap Some (omega arith)
 
 pub flags_laws : FlagsLaws
 unfolding put_by put

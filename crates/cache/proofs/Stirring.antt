@@ -1,5 +1,5 @@
 -- Hashes, byte by byte and label by label.
-use Rattle.std.proofs.Common.{◌≡◌, ℕ, ◌+◌, ◌<◌, ◌≤◌, ◌⊎◌, List, [], length, get_or, drop, Some, None, sym, ap, ◌∙◌, inl, inr}
+use Rattle.std.proofs.Common.{◌≡◌, ℕ, ◌+◌, ◌<◌, ◌≤◌, ◌⊎◌, List, [], ◌∷◌, ◌++◌, length, get_or, drop, Some, sym, refl, ap, ◌∙◌, inl, inr}
 use Rattle.std.specs.List.{slice_get}
 use Rattle.std.proofs.lemmas.List.{drop_more, drop_all}
 use Rattle.std.proofs.lemmas.Option.{slice_get-get_or, slice_get_past}
@@ -7,25 +7,19 @@ use Rattle.std.proofs.lemmas.Bool.{cases_lt}
 use Rattle.protocol.proofs.Lists.{some_is, some_none}
 use Rattle.cache.specs.Hashes.{stirred, stirred_all, stirred_name}
 
-pub all_stirred : (h i : ℕ) (bs : List ℕ) → length bs ≤ i → stirred_all h (drop i bs) ≡ h
+pub stirred_none : (h : ℕ) → stirred_all h [] ≡ h
 unfolding stirred_all
-all_stirred h i bs l = ap (stirred_all h) (drop_all i bs l)
+stirred_none h = refl
 
-pub one_stirred : (h i : ℕ) (bs : List ℕ) → i < length bs → stirred_all (stirred h (get_or bs i 0)) (drop (i + 1) bs) ≡ stirred_all h (drop i bs)
+-- one byte more at the end
+pub stirred_more : (h : ℕ) (bs : List ℕ) (b : ℕ) → stirred_all h (bs ++ (b ∷ [])) ≡ stirred (stirred_all h bs) b
 unfolding stirred_all
-one_stirred h i bs l = sym (ap (stirred_all h) (drop_more bs i 0 l))
+stirred_more h [] b = refl
+stirred_more h (c ∷ cs) b = stirred_more (stirred h c) cs b
 
 pub none_left : (h i : ℕ) (ls : List (List ℕ)) → length ls ≤ i → stirred_name h (drop i ls) ≡ h
 unfolding stirred_name
 none_left h i ls l = ap (stirred_name h) (drop_all i ls l)
-
-pub past_labels : (h i : ℕ) (ls : List (List ℕ)) → None ≡ slice_get ls i → stirred_name h (drop i ls) ≡ h
-unfolding stirred_name
-past_labels h i ls e = go (cases_lt i (length ls))
-  where
-    go : (i < length ls) ⊎ (length ls ≤ i) → stirred_name h (drop i ls) ≡ h
-    go (inl l) = absurd (some_none (get_or ls i []) (e ∙ slice_get-get_or ls i [] l))
-    go (inr l) = ap (stirred_name h) (drop_all i ls l)
 
 pub label_within : (i : ℕ) (ls : List (List ℕ)) (l : List ℕ) → Some l ≡ slice_get ls i → i < length ls
 label_within i ls l e = go (cases_lt i (length ls))

@@ -1,5 +1,5 @@
 -- What words and entries stand for.
-use Rattle.std.specs.Prelude.{[], map, vec_items}
+use Rattle.std.specs.Prelude.{ℕ, [], map, vec_items}
 use Rattle.names.specs.Names.{labels}
 use Rattle.records.specs.Contents.{bytes_of, content_of}
 use Rattle.meaning.specs.Speech as says
@@ -9,6 +9,7 @@ use Rattle.protocol.specs.World as world
 use Rattle.cache.specs.declared.word.Said.{Said}
 use Rattle.cache.specs.declared.word.Said.TheVariants as rust
 use Rattle.cache.specs.declared.word.Word.{Word}
+use Rattle.cache.specs.declared.word.Moment.{Moment}
 use Rattle.cache.specs.declared.entry.Entry.{Entry}
 
 abbrev pub said_of : Said → says.Said
@@ -35,3 +36,7 @@ entry_of e = record {
 -- times depend on the day alone, so these rules stand for those of any roots: `until rules e` and `until (rules_of roots) e` compute to the same
 abbrev pub rules : Rules
 rules = rules_of []
+
+-- when an entry's turn to be forgotten comes: when it runs out, then when it was heard
+abbrev pub turn_of : world.Entry → ℕ × Moment
+turn_of e = (world.until rules e, record { 0 = e.heard })

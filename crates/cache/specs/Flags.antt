@@ -1,19 +1,14 @@
 -- Putting an entry in where what is in use comes as a flag for each place. Assumes nothing.
-use Rattle.std.specs.Prelude.{◌≡◌, ℕ, suc, Bool, cond, List, [], ◌∷◌, ◌++◌, map, length, Some, None, Option, nat_lt, slice_index_or, slice_set}
+use Rattle.std.specs.Prelude.{◌≡◌, ℕ, suc, Bool, cond, List, [], ◌∷◌, ◌++◌, map, length, Some, None, Option, nat_lt, slice_set}
 use Rattle.std.specs.Option.{option_map}
 use Rattle.protocol.specs.World.{Rules, Entry, is_key}
-use Rattle.machine.specs.Store.{max_entries, place_of, sooner, pick, Put, Kept, oust, put}
+use Rattle.machine.specs.Store.{max_entries, place_of, pick, Put, Kept, oust, put}
 
 -- where the entry stands that runs out first, of those not in use; a place without a flag counts as in use
 unfoldable pub soonest_by : Rules → List Bool → List Entry → Option ℕ
 soonest_by r [] es = None
 soonest_by r (u ∷ us) [] = None
 soonest_by r (u ∷ us) (e ∷ es) = cond u (option_map suc (soonest_by r us es)) (pick r e es (soonest_by r us es))
-
--- of an entry and one behind it, the one that runs out first; d stands past the end
-abbrev pub first_of_two : Rules → Entry → List Entry → ℕ → Option ℕ → Option ℕ
-first_of_two r d es i None = Some i
-first_of_two r d es i (Some j) = cond (sooner r (slice_index_or es j d) (slice_index_or es i d)) (Some j) (Some i)
 
 abbrev pub put_by_at : Rules → List Bool → Entry → List Entry → Option ℕ → Put
 put_by_at r us e es (Some i) = Kept (slice_set es i e)

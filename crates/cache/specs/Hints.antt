@@ -1,5 +1,5 @@
 -- Hints: which there are of a hash and place, and that they are there for every entry. Assumes nothing.
-use Rattle.std.specs.Prelude.{◌≡◌, ℕ, ◌+◌, ◌<◌, ◌≤◌, Bool, true, cond, ◌&&◌, List, [], length, get_or, Some, None, Option, ◌==◌, slice_index_or}
+use Rattle.std.specs.Prelude.{◌≡◌, ℕ, ◌+◌, ◌<◌, ◌≤◌, Bool, true, ◌&&◌, List, [], length, get_or, ◌==◌, slice_index_or}
 use Rattle.meaning.specs.Speech.{Empty}
 use Rattle.protocol.specs.Lists.{any}
 use Rattle.protocol.specs.World.{Entry}
@@ -35,8 +35,3 @@ hash_for e = hash_of e.apex e.name e.kind
 -- every entry has its hint
 abbrev pub Covers : List Hint → List Entry → Type 0
 Covers xs es = (i : ℕ) → i < length es → hinted (hash_for (slice_index_or es i nobody)) i xs ≡ true
-
--- the place of a hint, if it has the hash
-abbrev pub place_in : ℕ → Option Hint → Option ℕ
-place_in h None = None
-place_in h (Some x) = cond (x.hash == h) (Some x.place) None

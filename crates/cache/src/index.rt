@@ -12,6 +12,8 @@ pub struct Hint {
 
 #[derive(Drop)]
 pub struct Index {
+    // Sorted, and no map: after entries have come in the place of others a map promises no room for one more, and
+    // putting an entry in never fails for memory.
     hints: Vec<Hint>,
     ghost rising: { Rising hints.items },
 }

@@ -1,3 +1,3 @@
 mod Courses
 mod Going
-pub mod Traced
+mod Traced

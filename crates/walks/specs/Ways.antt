@@ -3,6 +3,7 @@ use Rattle.std.specs.Prelude.{◌≡◌, ℕ, List, Some, None, Option}
 use Rattle.std.specs.List.{slice_get}
 use Rattle.names.specs.Names.{labels}
 use Rattle.meaning.specs.Speech.{Said, Found, AliasTo, Referred, Empty, Absent}
+use Rattle.records.specs.declared.types.Kind.{Kind}
 use Rattle.protocol.specs.Words.{Server, Outcome, Told, NoData, NoName}
 use Rattle.protocol.specs.World.{Entry}
 use Rattle.protocol.specs.Walks as walks
@@ -44,8 +45,14 @@ outcome_at (Some e) = outcome_of e.word.said
 
 abbrev pub end_for : List Entry → Ending → End
 end_for es (rust.Shows i) = walks.Shows (outcome_at (slice_get es i))
-end_for es (rust.Lacks a p) = walks.LacksAt (labels a) (labels p)
+end_for es (rust.Lacks k) = walks.LacksAt (labels k.apex) (labels k.name)
 end_for es rust.TooLong = walks.TooLong
 
 abbrev pub course_for : List Server → List Entry → declared.Course → model.Course
 course_for roots es c = record { end = end_for es c.ending; least = c.least; servers = servers_at roots es c.referral }
+
+-- what is lacking is of the kind that was asked for
+abbrev pub IsOfKind : Kind → Ending → Type 0
+IsOfKind k (rust.Shows i) = Unit {0}
+IsOfKind k (rust.Lacks key) = key.kind ≡ k
+IsOfKind k rust.TooLong = Unit {0}

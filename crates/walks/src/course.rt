@@ -9,7 +9,7 @@ ghost use Rattle.cache.specs.Caches.{entries_of};
 ghost use Rattle.cache.specs.Entries.{rules};
 ghost use Rattle.walks.specs.Traces.{places_of};
 ghost use Rattle.walks.specs.Courses.{course_of, least_of};
-ghost use Rattle.walks.specs.Ways.{course_for};
+ghost use Rattle.walks.specs.Ways.{course_for, IsOfKind};
 
 use crate::trace::{MAX_STEPS, Trace};
 use crate::way::{Way, lesser_of};
@@ -21,8 +21,8 @@ use records::Kind;
 pub enum Ending {
     // The entry at this place ends the walk.
     Shows(usize),
-    // This zone's word on this name is lacking.
-    Lacks(Name, Name),
+    // The word of this key is lacking.
+    Lacks(Key),
     TooLong,
 }
 
@@ -41,22 +41,13 @@ pub struct Course {
 pub fn walk(cache: &Cache, moment: Moment, name: &Name, kind: Kind) -> Course
     ensures course { (roots : List Server) → course_for roots (entries_of cache.now) result ≡ course_of (rules_of roots) moment.0 (entries_of cache.now) (labels name.now) kind.number }
     ensures words { map (slice_get (entries_of cache.now)) (places_of result.trace) ≡ map Some (shown_by rules moment.0 (entries_of cache.now) (labels name.now) kind.number).words }
+    ensures kind { IsOfKind kind result.ending }
 {
-    let mut way = Way::from_root(*name);
+    let mut way = Way::from_root(*name, kind);
     let mut trace = Trace::empty();
-    let mut steps = MAX_STEPS;
-    while steps > 0 {
-        steps -= 1;
-        let key = Key {
-            apex: way.apex,
-            name: way.name,
-            kind,
-        };
-        let Some(place) = cache.recall(moment, &key) else {
-            return way.stopped(Ending::Lacks(way.apex, way.name), trace);
-        };
-        let Some(entry) = cache.get(place) else {
-            return way.stopped(Ending::Lacks(way.apex, way.name), trace);
+    for _step in 0..MAX_STEPS {
+        let Some((place, entry)) = cache.recall_entry(moment, &way.key) else {
+            return way.stopped(Ending::Lacks(way.key), trace);
         };
         trace.push(place);
         match way.step(place, entry, moment) {

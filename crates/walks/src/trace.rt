@@ -8,6 +8,7 @@ pub const MAX_STEPS: usize = 24;
 
 #[derive(Clone, Copy)]
 pub struct Trace {
+    // With a count beside it: an `ArrayVec` is not `Copy`, and a course is a plain value that is copied.
     places: [usize; MAX_STEPS],
     count: usize,
     ghost bounded: { count ≤ 24 },

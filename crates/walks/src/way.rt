@@ -7,14 +7,14 @@ ghost use Rattle.cache.specs.Entries.{entry_of, rules, said_of};
 ghost use Rattle.walks.specs.Courses.{lesser};
 ghost use Rattle.walks.specs.Ways.{outcome_of, Names};
 
-use cache::{Entry, Moment, Said};
+use cache::{Entry, Key, Moment, Said};
 use names::Name;
+use records::Kind;
 
 #[derive(Clone, Copy)]
 pub struct Way {
-    // The zone that is asked next, and for which name.
-    pub apex: Name,
-    pub name: Name,
+    // The zone that is asked next, and for what.
+    pub key: Key,
     // The least that is left of the times of the words so far.
     pub least: Option<u128>,
     // The place of the referral that names the zone's servers; the root's own where there is none.
@@ -25,50 +25,51 @@ pub struct Way {
 pub fn lesser_of(least: Option<u128>, more: u128) -> u128
     ensures { result ≡ lesser least more }
 {
-    match least {
-        None => more,
-        Some(so_far) => { if so_far < more { so_far } else { more } }
-    }
+    least.map_or(more, |so_far| so_far.min(more))
 }
 
 impl Way {
-    pub fn from_root(name: Name) -> Way
-        ensures apex { labels result.apex ≡ [] }
-        ensures name { labels result.name ≡ labels name }
+    pub fn from_root(name: Name, kind: Kind) -> Way
+        ensures apex { labels result.key.apex ≡ [] }
+        ensures name { labels result.key.name ≡ labels name }
+        ensures kind { result.key.kind ≡ kind }
         ensures least { result.least ≡ None }
         ensures referral { result.referral ≡ None }
     {
         Way {
-            apex: Name::root(),
-            name,
+            key: Key {
+                apex: Name::root(),
+                name,
+                kind,
+            },
             least: None,
             referral: None,
         }
     }
 
     // By a word, at a place of the cache: on to the next zone, or nowhere where the word ends the walk.
+    #[tactic(auto, unfolding(protocol::specs::Words::next))]
     pub fn step(self, place: usize, entry: &Entry, moment: Moment) -> Option<Way>
-        ensures turn { MatchOption result (next (said_of entry.now.said) (labels self.name) ≡ Ends (outcome_of (said_of entry.now.said))) (λ w. next (said_of entry.now.said) (labels self.name) ≡ Goes (labels w.apex) (labels w.name)) }
+        ensures turn { MatchOption result (next (said_of entry.now.said) (labels self.key.name) ≡ Ends (outcome_of (said_of entry.now.said))) (λ w. next (said_of entry.now.said) (labels self.key.name) ≡ Goes (labels w.key.apex) (labels w.key.name)) }
+        ensures kind { IfSome result (λ w. w.key.kind ≡ self.key.kind) }
         ensures least { IfSome result (λ w. w.least ≡ Some (lesser self.least (left rules moment.0 (entry_of entry.now)))) }
         ensures referral { IfSome result (λ w. Names place (said_of entry.now.said) w.referral) }
     {
         let least = Some(lesser_of(self.least, entry.left(moment)));
         match &entry.said {
             Said::Alias(to) => Some(Way {
-                apex: Name::root(),
-                name: *to,
                 least,
-                referral: None,
+                ..Way::from_root(*to, self.key.kind)
             }),
             Said::Referral(referral) => Some(Way {
-                apex: referral.name,
-                name: self.name,
+                key: Key {
+                    apex: referral.name,
+                    ..self.key
+                },
                 least,
                 referral: Some(place),
             }),
-            Said::Data(_) => None,
-            Said::NoData => None,
-            Said::NoName => None,
+            Said::Data(_) | Said::NoData | Said::NoName => None,
         }
     }
 }

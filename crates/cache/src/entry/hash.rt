@@ -18,13 +18,10 @@ fn stir(hash: u64, byte: u8) -> u64
 fn stir_all(start: u64, bytes: &[u8]) -> u64
     ensures { result ≡ stirred_all start bytes.now }
 {
-    let mut hash = start;
-    for byte in bytes {
-        hash = stir(hash, *byte);
-    }
-    hash
+    bytes.iter().fold(start, |hash, byte| stir(hash, *byte))
 }
 
+// A loop over depths, since a name hands out its labels one by one.
 fn stir_name(start: u64, name: &Name) -> u64
     ensures { result ≡ stirred_name start (labels name.now) }
 {

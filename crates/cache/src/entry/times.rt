@@ -5,26 +5,20 @@ ghost use Rattle.meaning.specs.Says.{same};
 ghost use Rattle.protocol.specs.World.{until, counts, is_key};
 ghost use Rattle.protocol.specs.Walks.{left};
 ghost use Rattle.machine.specs.Store.{sooner};
-ghost use Rattle.cache.specs.Entries.{entry_of, rules};
+ghost use Rattle.cache.specs.Entries.{entry_of, rules, turn_of};
 
 use super::{Entry, Key};
 use crate::word::Moment;
-use names::Name;
 
 // In seconds: no word counts for longer.
 pub const DAY: u32 = 86_400;
 
-fn is_same(a: &Name, b: &Name) -> bool
-    ensures { result ≡ same (labels a.now) (labels b.now) }
-{
-    *a == *b
-}
-
 impl Key {
+    // Whether another key has the same apex and name, of whatever kind.
     pub fn has_names_of(&self, other: &Key) -> bool
         ensures { result ≡ (same (labels self.now.apex) (labels other.now.apex) && same (labels self.now.name) (labels other.now.name)) }
     {
-        is_same(&self.apex, &other.apex) && is_same(&self.name, &other.name)
+        self.apex == other.apex && self.name == other.name
     }
 }
 
@@ -50,18 +44,23 @@ impl Entry {
         self.until().saturating_sub(u128::from(moment.0))
     }
 
+    // Of two entries, the one of the lower turn is forgotten first.
+    pub(crate) fn turn(&self) -> (u128, Moment)
+        ensures { result ≡ turn_of (entry_of self.now) }
+    {
+        (self.until(), self.numbers.heard)
+    }
+
     // Whether it runs out before another; of two that run out together, whether it was heard first.
     pub fn is_sooner(&self, other: &Entry) -> bool
         ensures { result ≡ sooner rules (entry_of self.now) (entry_of other.now) }
     {
-        let mine = self.until();
-        let others = other.until();
-        mine < others || (mine == others && self.numbers.heard.0 < other.numbers.heard.0)
+        self.turn() < other.turn()
     }
 
     pub fn has_key(&self, key: &Key) -> bool
         ensures { result ≡ is_key (labels key.now.apex) (labels key.now.name) key.now.kind.number (entry_of self.now) }
     {
-        self.key.has_names_of(key) && self.key.kind.number() == key.kind.number()
+        self.key == *key
     }
 }

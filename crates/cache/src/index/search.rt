@@ -1,8 +1,7 @@
 // Searching the index, which halves, and changing it.
-ghost use Rattle.std.specs.Prelude.{◌≡◌, ℕ, ◌+◌, ◌<◌, ◌≤◌, true, false, [], length, MatchOption, MatchResult, ◌≢◌};
-ghost use Rattle.std.specs.List.{slice_get};
+ghost use Rattle.std.specs.Prelude.{◌≡◌, ℕ, ◌+◌, ◌<◌, ◌≤◌, true, false, [], length, MatchOption, MatchResult, ◌≢◌, ◌==◌, filter};
 ghost use Rattle.names.specs.declared.fault.Fault.TheVariants.{NoMemory};
-ghost use Rattle.cache.specs.Hints.{hash_at, place_on, hinted, place_in};
+ghost use Rattle.cache.specs.Hints.{hash_at, place_on, hinted};
 ghost use Rattle.cache.specs.Indexes.{hints_of, room_of};
 
 use super::{Hint, Index};
@@ -19,38 +18,21 @@ impl Index {
     }
 
     // How many hints have a lower hash.
-    pub fn first(&self, hash: u64) -> usize
+    fn first(&self, hash: u64) -> usize
         ensures within { result ≤ length (hints_of self.now) }
         ensures below { (k : ℕ) → k < result → hash_at (hints_of self.now) k < hash }
         ensures above { (k : ℕ) → result ≤ k → k < length (hints_of self.now) → hash ≤ hash_at (hints_of self.now) k }
     {
-        let hints = self.hints.as_slice();
-        let mut low: usize = 0;
-        let mut high: usize = hints.len();
-        while low < high {
-            let middle = low + (high - low) / 2;
-            if hints[middle].hash < hash {
-                low = middle + 1;
-            } else {
-                high = middle;
-            }
-        }
-        low
+        self.hints.partition_point(|hint| hint.hash < hash)
     }
 
-    // The place in the hint at an index, if there is one and it has the hash.
-    pub fn place_at(&self, at: usize, hash: u64) -> Option<usize>
-        ensures { result ≡ place_in hash (slice_get (hints_of self.now) at) }
+    // The hints of a hash, which stand side by side.
+    pub fn of_hash(&self, hash: u64) -> &[Hint]
+        ensures { result.now ≡ filter (λ x. x.hash == hash) (hints_of self.now) }
     {
-        if at >= self.hints.len() {
-            return None;
-        }
-        let hint = self.hints[at];
-        if hint.hash == hash {
-            Some(hint.place)
-        } else {
-            None
-        }
+        let hints = &self.hints[self.first(hash)..];
+        let count = hints.iter().take_while(|hint| hint.hash == hash).count();
+        &hints[..count]
     }
 
     // One hint more, where there is room.
@@ -69,13 +51,7 @@ impl Index {
     fn position(&self, place: usize) -> Option<usize>
         ensures { MatchOption result (((h : ℕ) → hinted h place (hints_of self.now) ≡ false)) (λ k. (k < length (hints_of self.now)) × (place_on (hints_of self.now) k ≡ place)) }
     {
-        let hints = self.hints.as_slice();
-        for at in 0..hints.len() {
-            if hints[at].place == place {
-                return Some(at);
-            }
-        }
-        None
+        self.hints.iter().position(|hint| hint.place == place)
     }
 
     // Without a hint of a place that has one.

@@ -36,36 +36,32 @@ impl Cache {
     pub fn get(&self, place: usize) -> Option<&Entry>
         ensures { option_map (λ e. entry_of e.now) result ≡ slice_get (entries_of self.now) place }
     {
-        if place < self.entries.len() {
-            Some(&self.entries[place])
-        } else {
-            None
-        }
+        self.entries.get(place)
     }
 
     // Whether the entry at a place has a key.
     fn is_at(&self, place: usize, key: &Key) -> bool
         ensures { result ≡ key_at (labels key.now.apex) (labels key.now.name) key.now.kind.number (slice_get (entries_of self.now) place) }
     {
-        match self.get(place) {
-            Some(entry) => entry.has_key(key),
-            None => false,
-        }
+        self.get(place).is_some_and(|entry| entry.has_key(key))
     }
 
     // Where the entry of a key stands: a hint of its hash leads to it.
     pub fn find(&self, key: &Key) -> Option<usize>
         ensures { result ≡ place_of (is_key (labels key.now.apex) (labels key.now.name) key.now.kind.number) (entries_of self.now) }
     {
-        let hash = key.hash();
-        let mut at = self.index.first(hash);
-        while let Some(place) = self.index.place_at(at, hash) {
-            if self.is_at(place, key) {
-                return Some(place);
-            }
-            at += 1;
-        }
-        None
+        let mut places = self.index.of_hash(key.hash()).iter().map(|hint| hint.place);
+        places.find(|place| self.is_at(*place, key))
+    }
+
+    // The entry of a key with its place, if it still counts.
+    pub fn recall_entry(&self, moment: Moment, key: &Key) -> Option<(usize, &Entry)>
+        ensures entry { option_map (λ p. entry_of p.1.now) result ≡ remembered rules moment.0 (entries_of self.now) key.now.kind.number (labels key.now.apex) (labels key.now.name) }
+        ensures place { IfSome result (λ p. slice_get (entries_of self.now) p.0 ≡ Some (entry_of p.1.now)) }
+    {
+        let place = self.find(key)?;
+        let entry = &self.entries[place];
+        entry.counts(moment).then_some((place, entry))
     }
 
     // Where the entry of a key stands, if it still counts.
@@ -73,13 +69,6 @@ impl Cache {
         ensures entry { onto (slice_get (entries_of self.now)) result ≡ remembered rules moment.0 (entries_of self.now) key.now.kind.number (labels key.now.apex) (labels key.now.name) }
         ensures place { IfSome result (λ i. i < length (entries_of self.now)) }
     {
-        let Some(place) = self.find(key) else {
-            return None;
-        };
-        if self.entries[place].counts(moment) {
-            Some(place)
-        } else {
-            None
-        }
+        self.recall_entry(moment, key).map(|(place, _)| place)
     }
 }

@@ -1,10 +1,9 @@
 // Putting an entry in, and what is forgotten for it.
-ghost use Rattle.std.specs.Prelude.{◌≡◌, ◌<◌, false, not, [], ◌∷◌, ◌++◌, length, IfSome, Some, None, vec_len, slice_index_or, slice_set};
-ghost use Rattle.protocol.specs.World as world;
+ghost use Rattle.std.specs.Prelude.{◌≡◌, ◌<◌, [], ◌∷◌, ◌++◌, length, Some, None, slice_set};
 ghost use Rattle.protocol.specs.World.{is_key};
 ghost use Rattle.machine.specs.Store.{max_entries, place_of};
 ghost use Rattle.cache.specs.Entries.{entry_of, rules};
-ghost use Rattle.cache.specs.Flags.{soonest_by, put_by, first_of_two, FlagsLaws};
+ghost use Rattle.cache.specs.Flags.{soonest_by, put_by, FlagsLaws};
 ghost use Rattle.cache.specs.Caches.{entries_of, Puts};
 
 use super::{Cache, MAX_ENTRIES};
@@ -21,42 +20,15 @@ pub enum Stored {
     NoRoom,
 }
 
-fn is_free(used: &[bool], place: usize) -> bool
-    requires { place < length used.now }
-    ensures { result ≡ not (slice_index_or used.now place false) }
-{
-    !used[place]
-}
-
 impl Cache {
-    // Of the entry at a place and one behind it, the one that runs out first.
-    fn first_out(&self, place: usize, behind: Option<usize>) -> usize
-        requires { (place < vec_len self.now.entries) × (IfSome behind (λ j. j < vec_len self.now.entries)) }
-        ensures { (d : world.Entry) → Some result ≡ first_of_two rules d (entries_of self.now) place behind }
-    {
-        let Some(other) = behind else {
-            return place;
-        };
-        if self.entries[other].is_sooner(&self.entries[place]) {
-            other
-        } else {
-            place
-        }
-    }
-
     // Where the entry stands that runs out first, of those not in use; a place without a flag counts as in use.
     fn soonest(&self, used: &[bool]) -> Option<usize>
         ensures { result ≡ soonest_by rules used.now (entries_of self.now) }
     {
-        let mut found: Option<usize> = None;
-        let mut place = self.entries.len().min(used.len());
-        while place > 0 {
-            place -= 1;
-            if is_free(used, place) {
-                found = Some(self.first_out(place, found));
-            }
-        }
-        found
+        let entries = self.entries.iter().zip(used).enumerate();
+        let free = entries.filter(|(_, (_, used))| !**used);
+        let turns = free.map(|(place, (entry, _))| (entry.turn(), place));
+        turns.min().map(|(_, place)| place)
     }
 
     // In the place of the entry of the same key.

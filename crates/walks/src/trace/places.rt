@@ -6,6 +6,7 @@ ghost use Rattle.walks.specs.Traces.{places_of, one_place, marked};
 use super::{MAX_STEPS, Trace};
 
 impl Trace {
+    #[tactic(auto, unfolding(crate::specs::Traces::places_of))]
     pub fn empty() -> Trace
         ensures { places_of result ≡ [] }
     {
@@ -16,16 +17,25 @@ impl Trace {
     }
 
     // One place more; a walk never has more than there is room for.
+    #[tactic(auto, using(crate::proofs::Traced::pushed, crate::proofs::Traced::full), unfolding(crate::specs::Traces::places_of))]
     pub fn push(&mut self, place: usize)
         ensures { places_of self.new ≡ one_place place (places_of self.old) }
     {
         if self.count < MAX_STEPS {
-            let count = self.count;
-            self.places[count] = place;
-            self.count = count + 1;
+            self.places[self.count] = place;
+            self.count += 1;
         }
     }
 
+    // In their order.
+    #[tactic(auto, unfolding(crate::specs::Traces::places_of))]
+    fn as_slice(&self) -> &[usize]
+        ensures { result.now ≡ places_of self.now }
+    {
+        &self.places[..self.count]
+    }
+
+    #[tactic(auto, unfolding(crate::specs::Traces::places_of))]
     pub fn len(&self) -> usize
         ensures { result ≡ length (places_of self.now) }
     {
@@ -35,21 +45,17 @@ impl Trace {
     pub fn get(&self, i: usize) -> Option<usize>
         ensures { result ≡ slice_get (places_of self.now) i }
     {
-        if i < self.count {
-            Some(self.places[i])
-        } else {
-            None
-        }
+        self.as_slice().get(i).copied()
     }
 
     // Sets the flag of each of its places.
+    #[tactic(auto, using(crate::proofs::Traced::mark_on, crate::proofs::Traced::mark_past, crate::proofs::Traced::mark_end))]
     pub fn mark(&self, flags: &mut [bool])
         ensures { flags.new ≡ marked (places_of self.now) flags.old }
     {
-        for i in 0..self.count {
-            let place = self.places[i];
-            if place < flags.len() {
-                flags[place] = true;
+        for place in self.as_slice() {
+            if *place < flags.len() {
+                flags[*place] = true;
             }
         }
     }

@@ -1,12 +1,8 @@
 use Rattle.std.proofs.Common.{◌+◌, drop, sym, ap, ◌∙◌, arith}
 use Rattle.names.specs.Names.{labels}
-use Rattle.std.specs.Option.{option_map}
 use Rattle.cache.specs.Hashes.{stirred_all, stirred_name}
-use Rattle.cache.proofs.Stirring.{label_stirred, past_labels, none_left}
+use Rattle.cache.proofs.Stirring.{label_stirred, none_left}
 use Rattle.cache.proofs.entry.hash.stir_name.Goals as goal
-
-pub returns-in_default : goal.returns-in_default
-returns-in_default c = sym (past_labels c.loop-depth.hash c.loop-depth.depth (labels c.args.name.now) (sym (ap (option_map (λ x. x.now)) c.in_default.is) ∙ c.label.ensures)) ∙ c.loop-depth.invariant
 
 pub loop-depth-preserved : goal.loop-depth-preserved
 loop-depth-preserved c =

@@ -1,18 +1,19 @@
-use Rattle.std.proofs.Common.{sym, subst, arith}
-use Rattle.cache.specs.Hints.{Rising}
-use Rattle.cache.proofs.Hinting.{lower_half, upper_half}
+use Rattle.std.proofs.Common.{◌<◌, ◌≤◌, length, ltb, ltb-true, ltb-false, sym, subst, arith, rules}
+use Rattle.std.proofs.lemmas.List.Sorted.{IsPartitionPoint-from_clause, IsPartitionedBy-ltb}
+use Rattle.cache.specs.Hints.{hash_in, hash_at, Rising}
+use Rattle.cache.proofs.Hinting.{blank, ordered}
 use Rattle.cache.proofs.index.Index.first.Goals as goal
 
-pub loop-low-preserved-then-hints-middle : goal.loop-low-preserved-then-hints-middle
-loop-low-preserved-then-hints-middle c =
-    let i = c.loop-low.invariant in
-    let t = c.loop-low-test.true in
-    let r = subst Rising (sym c.as_slice-hints.ensures.value) c.args.self.now.rising in
-    (omega arith, i.1, lower_half c.as_slice-hints.result.now r _ c.args.hash (omega arith) c.if-hints-middle.true, i.3)
-
-pub loop-low-preserved : goal.loop-low-preserved
-loop-low-preserved c =
-    let i = c.loop-low.invariant in
-    let t = c.loop-low-test.true in
-    let r = subst Rising (sym c.as_slice-hints.ensures.value) c.args.self.now.rising in
-    (omega arith, omega arith, i.2, upper_half c.as_slice-hints.result.now r _ c.args.hash c.if-hints-middle.false)
+pub returns : goal.returns
+returns c =
+    let xs = c.deref.result.now in
+    let e = c.deref.ensures.value in
+    let parted = IsPartitionedBy-ltb hash_in xs c.args.hash (ordered xs (subst Rising (sym e) c.args.self.now.rising)) in
+    let point = IsPartitionPoint-from_clause (λ x. ltb (hash_in x) c.args.hash) xs _ c.partition_point.ensures.partitioned parted (λ a r q k. search rules) in
+    let low = point.0 in
+    let high = point.1 in
+    record {
+      within = subst (λ ys. c.partition_point.result ≤ length ys) e c.partition_point.ensures.bound;
+      below = λ k l. subst (λ ys. hash_at ys k < c.args.hash) e (ltb-true _ _ (low k blank (omega arith) l));
+      above = λ k l m. subst (λ ys. c.args.hash ≤ hash_at ys k) e (ltb-false _ _ (high k blank l (subst (λ ys. k < length ys) (sym e) m)));
+    }

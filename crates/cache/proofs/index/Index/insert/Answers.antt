@@ -1,18 +1,9 @@
-use Rattle.std.proofs.Common.{length, is_ok, vec_items, sym, ap, ◌∙◌, subst, arith}
+use Rattle.std.proofs.Common.{length, is_ok, vec_items, ap, ◌∙◌, arith}
 use Rattle.std.proofs.lemmas.List.Edits.{length-insert}
-use Rattle.cache.specs.Hints.{hinted, Rising}
+use Rattle.cache.specs.Hints.{hinted}
 use Rattle.cache.specs.Indexes.{hints_of}
-use Rattle.cache.proofs.Hinting.{was_inserted, rising_inserted, hinted_inserted, hinted_new}
+use Rattle.cache.proofs.Hinting.{was_inserted, hinted_inserted, hinted_new}
 use Rattle.cache.proofs.index.Index.insert.Goals as goal
-
-pub invariant_of-self : goal.invariant_of-self
-invariant_of-self c =
-    let xs = hints_of c.args.self.now in
-    let n = c.args.self.now.hints.ok.0 in
-    let w = c.requires in
-    let f = c.first-at.ensures in
-    let e = was_inserted xs (vec_items c.insert.new.self) c.first-at.result (record { hash = c.args.hash; place = c.args.place }) (is_ok c.insert.result) c.insert.ensures.items (c.insert.ensures.succeeds (omega arith)) in
-    record { rising = subst Rising (sym e) (rising_inserted xs c.args.self.now.rising c.first-at.result (record { hash = c.args.hash; place = c.args.place }) f.within f.below f.above) }
 
 pub returns : goal.returns
 returns c =

@@ -1,7 +1,11 @@
-use Rattle.std.proofs.Common.{sym, ap, ◌∙◌, arith}
-use Rattle.cache.specs.Hints.{hinted}
-use Rattle.cache.proofs.Hinting.{unhinted}
+use Rattle.std.proofs.Common.{◌≡◌, ◌≢◌, rules, tests}
+use Rattle.std.proofs.lemmas.Iterator.{IsFirst-from_position, YieldsList-from_slice}
+use Rattle.cache.specs.declared.index.Hint.{Hint}
+use Rattle.cache.specs.Indexes.{hints_of}
+use Rattle.cache.proofs.Hinting.{no_hint}
 use Rattle.cache.proofs.index.Index.position.Goals as goal
 
 pub returns : goal.returns
-returns c = λ h. ap (hinted h c.args.place) (sym c.as_slice-hints.ensures.value) ∙ unhinted c.as_slice-hints.result.now c.args.place (λ k l. c.loop-at.invariant k (let m = c.loop-at-test.false in omega arith)) h
+returns c =
+    no_hint (hints_of c.args.self.now) c.args.place c.position.result
+    (IsFirst-from_position _ _ _ (λ (x : Hint). x.place ≡ c.args.place) (λ (x : Hint). x.place ≢ c.args.place) c.position.ensures.ran (YieldsList-from_slice (hints_of c.args.self.now) cc) (λ x q k. search (rules, tests)) (λ x q k. search (rules, tests)))

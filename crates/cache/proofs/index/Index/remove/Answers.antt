@@ -1,8 +1,8 @@
-use Rattle.std.proofs.Common.{◌+◌, length, sym, ap, ◌∙◌, subst}
+use Rattle.std.proofs.Common.{◌+◌, length, ap, ◌∙◌}
 use Rattle.std.proofs.lemmas.List.Edits.{length-remove}
-use Rattle.cache.specs.Hints.{hinted, Rising}
+use Rattle.cache.specs.Hints.{hinted}
 use Rattle.cache.specs.Indexes.{hints_of}
-use Rattle.cache.proofs.Hinting.{rising_removed, hinted_removed}
+use Rattle.cache.proofs.Hinting.{hinted_removed}
 use Rattle.cache.proofs.index.Index.remove.Goals as goal
 
 pub returns-in-Some : goal.returns-in-Some
@@ -15,8 +15,3 @@ returns-in-Some c =
       len = ap (λ ys. length ys + 1) e ∙ length-remove xs c.in-Some.at f.0;
       room = c.remove.ensures.capacity;
     }
-
-pub invariant_of-self : goal.invariant_of-self
-invariant_of-self c =
-    let f = c.in-Some.ensures in
-    record { rising = subst Rising (sym c.remove.ensures.items) (rising_removed (hints_of c.args.self.now) c.args.self.now.rising c.in-Some.at f.0) }

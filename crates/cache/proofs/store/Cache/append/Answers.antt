@@ -10,15 +10,6 @@ use Rattle.cache.proofs.Covering.{covers_push}
 use Rattle.cache.proofs.Storing.{one_appended}
 use Rattle.cache.proofs.store.Cache.append.Goals as goal
 
-pub push_reserved-requires : goal.push_reserved-requires
-push_reserved-requires c =
-    let self = c.args.self.now in
-    let n = self.entries.ok.0 in
-    let m = length-map (vec_items self.entries) entry_of in
-    let r = self.room in
-    let w = c.requires.1 in
-    omega arith
-
 pub invariant_of-self : goal.invariant_of-self
 invariant_of-self c =
     let self = c.args.self.now in
@@ -35,16 +26,3 @@ invariant_of-self c =
     let fs = ap (map entry_of) c.push_reserved.ensures.items ∙ map_push entry_of (vec_items self.entries) e in
     let there = subst (λ h. hinted h (length (entries_of self)) (hints_of c.insert.new.self) ≡ true) c.hash.ensures (subst (λ k. hinted c.hash.result k (hints_of c.insert.new.self) ≡ true) (c.len.ensures ∙ n ∙ sym m) j.there) in
     record { apart = ap one_a_key fs ∙ one_appended rules (entry_of e) (entries_of self) self.apart c.requires.0 c.requires.1; few = omega arith; room = omega arith; covered = subst (Covers (hints_of c.insert.new.self)) (sym fs) (covers_push (hints_of self.index) (hints_of c.insert.new.self) (entries_of self) (entry_of e) self.covered j.others there); even = omega arith; spare = omega arith }
-
-pub insert-requires : goal.insert-requires
-insert-requires c =
-    let self = c.args.self.now in
-    let n = self.entries.ok.0 in
-    let m = length-map (vec_items self.entries) entry_of in
-    let w = c.requires.1 in
-    let v = self.even in
-    let hr = self.spare in
-    omega arith
-
-pub returns : goal.returns
-returns c = ap (map entry_of) c.push_reserved.ensures.items ∙ map_push entry_of (vec_items c.args.self.now.entries) c.args.entry

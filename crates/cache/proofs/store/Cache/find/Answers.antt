@@ -1,49 +1,25 @@
-use Rattle.std.proofs.Common.{sym, ap, ◌∙◌, subst, arith}
-use Rattle.std.specs.List.{slice_get}
+use Rattle.std.proofs.Common.{◌≡◌, ℕ, map, Some, None, Option, refl, ap, ◌∙◌, rules, tests}
+use Rattle.std.specs.List.{filter, find}
+use Rattle.std.specs.Option.{option_map}
+use Rattle.std.proofs.lemmas.Iterator.{YieldsList-from_slice, YieldsList-from_map}
+use Rattle.std.proofs.lemmas.Iterator.Search.{find_from_yields_List}
 use Rattle.names.specs.Names.{labels}
+use Rattle.cache.specs.declared.index.Hint.{Hint}
 use Rattle.cache.specs.Caches.{entries_of}
-use Rattle.cache.specs.Hints.{place_in}
 use Rattle.cache.specs.Indexes.{hints_of}
-use Rattle.cache.proofs.Looking.{Hit, hit, begins, goes_on_lem, leads, leads_not, none_there}
+use Rattle.cache.proofs.Looking.{has, test, looked}
 use Rattle.cache.proofs.store.Cache.find.Goals as goal
 
-pub loop-place-init : goal.loop-place-init
-loop-place-init c =
-    let self = c.args.self.now in
-    let key = c.args.key.now in
-    let h = c.hash-hash.ensures in
-    begins (hints_of self.index) (entries_of self) (labels key.apex) (labels key.name) key.kind.number c.first-at.result (λ m l. let q = c.first-at.ensures.below m l in omega arith) (λ m l g. let q = c.first-at.ensures.above m l g in omega arith)
-
-pub returns-then-is_at : goal.returns-then-is_at
-returns-then-is_at c =
-    let self = c.args.self.now in
-    let key = c.args.key.now in
-    leads (entries_of self) (labels key.apex) (labels key.name) key.kind.number c.in-Some.place self.apart c.if-is_at.ensures
-
-pub overflow_add-at : goal.overflow_add-at
-overflow_add-at c =
-    let self = c.args.self.now in
-    let t = (hit (hints_of self.index) c.hash-hash.result c.loop-place.at c.in-Some.place c.in-Some.ensures).in_list in
-    let e = self.even in
-    let f = self.few in
-    omega arith
-
-pub loop-place-smaller : goal.loop-place-smaller
-loop-place-smaller c =
-    let self = c.args.self.now in
-    let t = (hit (hints_of self.index) c.hash-hash.result c.loop-place.at c.in-Some.place c.in-Some.ensures).in_list in
-    omega arith
-
-pub loop-place-preserved : goal.loop-place-preserved
-loop-place-preserved c =
-    let self = c.args.self.now in
-    let key = c.args.key.now in
-    let t = hit (hints_of self.index) c.hash-hash.result c.loop-place.at c.in-Some.place c.in-Some.ensures in
-    goes_on_lem (hints_of self.index) (entries_of self) (labels key.apex) (labels key.name) key.kind.number c.loop-place.at c.in-Some.place c.loop-place.invariant
-    (subst (λ h. Hit (hints_of self.index) h c.loop-place.at c.in-Some.place) c.hash-hash.ensures t) (leads_not (entries_of self) (labels key.apex) (labels key.name) key.kind.number c.in-Some.place c.if-is_at.ensures)
+same : (o : Option ℕ) → o ≡ option_map (λ r. r) o
+same None = refl
+same (Some i) = refl
 
 pub returns : goal.returns
 returns c =
     let self = c.args.self.now in
     let key = c.args.key.now in
-    none_there (hints_of self.index) (entries_of self) (labels key.apex) (labels key.name) key.kind.number self.index.rising self.covered c.loop-place.at c.loop-place.invariant (sym c.in_default.is ∙ c.place_at.ensures ∙ ap (λ h. place_in h (slice_get (hints_of self.index) c.loop-place.at)) c.hash-hash.ensures)
+    let h = c.hash.result in
+    let found = find_from_yields_List (test (entries_of self) (labels key.apex) (labels key.name) key.kind.number) _ _ c.find.result c.find.ensures.ran (YieldsList-from_map _ (λ (x : Hint). x.place) (YieldsList-from_slice (filter (has h) (hints_of self.index)) cc) c.map-places.ensures.closure (λ x r q k. search rules)) (λ x b q k. search (rules, tests)) in
+    same c.find.result ∙ found
+    ∙ ap (λ m. find (test (entries_of self) (labels key.apex) (labels key.name) key.kind.number) (map (λ (x : Hint). x.place) (filter (has m) (hints_of self.index)))) c.hash.ensures
+    ∙ looked (entries_of self) (labels key.apex) (labels key.name) key.kind.number (hints_of self.index) self.covered self.apart

@@ -1,5 +1,4 @@
 use Rattle.std.proofs.Common.{◌≡◌, true, get_or, vec_items, sym, ap, ◌∙◌, subst, arith}
-use lib.ListN.{length-map}
 use Rattle.std.proofs.lemmas.List.{map-set}
 use Rattle.machine.specs.Store.{one_a_key}
 use Rattle.cache.specs.Entries.{entry_of, rules}
@@ -9,14 +8,6 @@ use Rattle.cache.specs.Indexes.{hints_of}
 use Rattle.cache.proofs.Covering.{covers_set}
 use Rattle.cache.proofs.Storing.{one_ousted}
 use Rattle.cache.proofs.store.Cache.oust.Goals as goal
-
-pub index_mut-requires : goal.index_mut-requires
-index_mut-requires c =
-    let self = c.args.self.now in
-    let n = self.entries.ok.0 in
-    let m = length-map (vec_items self.entries) entry_of in
-    let w = c.requires.1 in
-    omega arith
 
 pub invariant_of-self : goal.invariant_of-self
 invariant_of-self c =

@@ -1,36 +1,22 @@
-use Rattle.std.proofs.Common.{◌≡◌, ◌+◌, ◌-◌, ◌<◌, true, false, length, get_or, vec_items, vec_len, sym, ◌∙◌, arith}
-use Rattle.std.proofs.lemmas.List.{get_or_default}
-use Rattle.std.proofs.lemmas.Bool.{not-true, not-false}
-use Rattle.cache.specs.Entries.{entry_of, rules}
-use Rattle.cache.proofs.Soonest.{at_end, passed_used, took_unused, stands_within}
+use Rattle.std.proofs.Common.{◌≡◌, ℕ, Bool, not, vec_items, ap, ◌∙◌, rules, tests}
+use Rattle.std.proofs.lemmas.Iterator.{YieldsList-from_slice, YieldsList-from_zip, YieldsList-from_map}
+use Rattle.std.proofs.lemmas.Iterator.Consumers.{YieldsList-at, YieldsList-from_enumerate, YieldsList-from_filter, reduce_from_yields_List}
+use Rattle.std.specs.Option.{option_map}
+use Rattle.cache.specs.declared.entry.Entry.{Entry}
+use Rattle.cache.specs.Entries.{entry_of, turn_of}
+use Rattle.cache.proofs.Soonest.{soonest_turn}
 use Rattle.cache.proofs.store.Cache.soonest.Goals as goal
 
-pub loop-place-init : goal.loop-place-init
-loop-place-init c =
-    let n = c.args.self.now.entries.ok.0 in
-    (at_end entry_of rules (vec_items c.args.self.now.entries) c.args.used.now c.min-place.result c.len.result (omega arith) (omega arith), omega arith, omega arith)
-
-pub first_out-requires : goal.first_out-requires
-first_out-requires c =
-    let n = c.args.self.now.entries.ok.0 in
-    let i = c.loop-place.invariant in
-    let w = stands_within entry_of rules (vec_items c.args.self.now.entries) c.args.used.now c.loop-place.place (vec_len c.args.self.now.entries) c.loop-place.found n (omega arith) i.0 in
-    (omega arith, w)
-
-pub loop-place-preserved-then-is_free : goal.loop-place-preserved-then-is_free
-loop-place-preserved-then-is_free c =
-    let n = c.args.self.now.entries.ok.0 in
-    let i = c.loop-place.invariant in
-    let t = c.loop-place-test.true in
-    let e : c.loop-place.place - 1 + 1 ≡ c.loop-place.place = omega arith in
-    (took_unused entry_of rules (vec_items c.args.self.now.entries) c.args.used.now c.loop-place.place (c.loop-place.place - 1) c.loop-place.found c.first_out.result e (omega arith) (omega arith) i.0 (sym (not-true (get_or c.args.used.now (c.loop-place.place - 1) false) (sym c.if-is_free.ensures))) c.first_out.ensures, omega arith, omega arith)
-
-pub loop-place-preserved : goal.loop-place-preserved
-loop-place-preserved c =
-    let n = c.args.self.now.entries.ok.0 in
-    let i = c.loop-place.invariant in
-    let t = c.loop-place-test.true in
-    let e : c.loop-place.place - 1 + 1 ≡ c.loop-place.place = omega arith in
-    let l : c.loop-place.place - 1 < length c.args.used.now = omega arith in
-    let u = sym (not-false (get_or c.args.used.now (c.loop-place.place - 1) false) (sym c.if-is_free.ensures)) ∙ get_or_default c.args.used.now (c.loop-place.place - 1) false true l in
-    (passed_used entry_of rules (vec_items c.args.self.now.entries) c.args.used.now c.loop-place.place (c.loop-place.place - 1) c.loop-place.found e l (omega arith) i.0 u, omega arith, omega arith)
+pub returns : goal.returns
+returns c =
+    let xs = vec_items c.args.self.now.entries in
+    let us = c.args.used.now in
+    let least = reduce_from_yields_List _ _ c.min.result c.min.ensures.ran
+    (YieldsList-from_map _ (λ (p : ℕ × (Entry × Bool)). (turn_of (entry_of p.1.0), p.0))
+    (YieldsList-at c.map-turns.ensures.source
+    (YieldsList-from_filter _ (λ (p : ℕ × (Entry × Bool)). not p.1.1)
+    (YieldsList-at c.filter-free.ensures.source (YieldsList-from_enumerate (YieldsList-at c.enumerate-entries.ensures.source (YieldsList-from_zip (YieldsList-from_slice xs cc) (YieldsList-from_slice us cc))) cc))
+    c.filter-free.ensures.closure (λ x b q k. search (rules, tests))))
+    c.map-turns.ensures.closure (λ x r q k. search rules)) in
+    let place : c.map.result ≡ option_map (λ t. t.1) c.min.result = search rules in
+    place ∙ ap (option_map (λ t. t.1)) least ∙ soonest_turn us xs
