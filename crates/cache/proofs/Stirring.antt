@@ -16,21 +16,3 @@ pub stirred_more : (h : ℕ) (bs : List ℕ) (b : ℕ) → stirred_all h (bs ++ 
 unfolding stirred_all
 stirred_more h [] b = refl
 stirred_more h (c ∷ cs) b = stirred_more (stirred h c) cs b
-
-pub none_left : (h i : ℕ) (ls : List (List ℕ)) → length ls ≤ i → stirred_name h (drop i ls) ≡ h
-unfolding stirred_name
-none_left h i ls l = ap (stirred_name h) (drop_all i ls l)
-
-pub label_within : (i : ℕ) (ls : List (List ℕ)) (l : List ℕ) → Some l ≡ slice_get ls i → i < length ls
-label_within i ls l e = go (cases_lt i (length ls))
-  where
-    go : (i < length ls) ⊎ (length ls ≤ i) → i < length ls
-    go (inl m) = m
-    go (inr m) = absurd (some_none l (sym (slice_get_past ls i m) ∙ sym e))
-
-pub label_stirred : (h i : ℕ) (ls : List (List ℕ)) (l : List ℕ) → Some l ≡ slice_get ls i → stirred_name (stirred_all (stirred h 46) l) (drop (i + 1) ls) ≡ stirred_name h (drop i ls)
-unfolding stirred_name
-label_stirred h i ls l e =
-    let m = label_within i ls l e in
-    let x = some_is l (get_or ls i []) (e ∙ slice_get-get_or ls i [] m) in
-    ap (λ y. stirred_name (stirred_all (stirred h 46) y) (drop (i + 1) ls)) x ∙ sym (ap (stirred_name h) (drop_more ls i [] m))

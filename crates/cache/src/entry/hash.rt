@@ -21,15 +21,11 @@ fn stir_all(start: u64, bytes: &[u8]) -> u64
     bytes.iter().fold(start, |hash, byte| stir(hash, *byte))
 }
 
-// A loop over depths, since a name hands out its labels one by one.
 fn stir_name(start: u64, name: &Name) -> u64
     ensures { result ≡ stirred_name start (labels name.now) }
 {
     let mut hash = start;
-    for depth in 0..name.label_count() {
-        let Some(label) = name.label(depth) else {
-            return hash;
-        };
+    for label in name.labels() {
         hash = stir_all(stir(hash, b'.'), label);
     }
     hash

@@ -1,15 +1,18 @@
-use Rattle.std.proofs.Common.{◌+◌, drop, sym, ap, ◌∙◌, arith}
-use Rattle.names.specs.Names.{labels}
+use Rattle.std.proofs.Common.{◌∷◌, sym, ap, ◌∙◌}
+use Rattle.names.specs.Iterating.{labels_left}
 use Rattle.cache.specs.Hashes.{stirred_all, stirred_name}
-use Rattle.cache.proofs.Stirring.{label_stirred, none_left}
 use Rattle.cache.proofs.entry.hash.stir_name.Goals as goal
 
-pub loop-depth-preserved : goal.loop-depth-preserved
-loop-depth-preserved c =
-    let ls = labels c.args.name.now in
-    ap (λ h. stirred_name h (drop (c.loop-depth.depth + 1) ls)) (c.stir_all-hash.ensures ∙ ap (λ h. stirred_all h c.in-Some.label.now) c.stir.ensures)
-    ∙ label_stirred c.loop-depth.hash c.loop-depth.depth ls c.in-Some.label.now c.in-Some.ensures
-    ∙ c.loop-depth.invariant
+pub loop-label-init : goal.loop-label-init
+loop-label-init c = ap (stirred_name c.args.start) (ap labels_left c.into_iter-label-iterator.ensures.into_iter_gives ∙ c.labels-label-items.ensures)
+
+pub loop-label-preserved : goal.loop-label-preserved
+unfolding stirred_name
+loop-label-preserved c =
+    ap (λ h. stirred_name h (labels_left c.next.new.self)) (c.stir_all-hash.ensures ∙ ap (λ h. stirred_all h c.in-Some.label.now) c.stir.ensures)
+    ∙ ap (stirred_name c.loop-label.hash) (sym c.in-Some.ensures.steps)
+    ∙ c.loop-label.invariant
 
 pub returns : goal.returns
-returns c = sym (none_left c.loop-depth.hash c.loop-depth.depth (labels c.args.name.now) (omega arith)) ∙ c.loop-depth.invariant
+unfolding stirred_name
+returns c = ap (stirred_name c.loop-label.hash) (sym c.in-None.ensures.steps.0) ∙ c.loop-label.invariant
