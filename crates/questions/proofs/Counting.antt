@@ -1,5 +1,7 @@
 -- One more try, by the place of its word.
-use Rattle.std.proofs.Common.{◌≡◌, ℕ, ◌<◌, ◌≤◌, Bool, true, false, cond, not, eqb, leb, List, [], ◌∷◌, ◌++◌, map, length, get_or, set, is_some, Some, None, Option, true≢false, sym, refl, ap, ◌∙◌, le-leb}
+use Rattle.std.proofs.Common.{◌≡◌, ℕ, ◌<◌, ◌≤◌, Bool, true, false, cond, not, eqb, leb, List, [], ◌∷◌, ◌++◌, map, length, get_or, set, is_some, Some, None, Ok, Err, MatchResult, Option, Result, true≢false, sym, refl, ap, ◌∙◌, le-leb, arith}
+use mathlib.Core.List.{map-append}
+use lib.ListN.{length-map}
 use borrow.Author.Tests.{lt-leb}
 use Rattle.std.proofs.lemmas.List.{map-set, get_or-map}
 use Rattle.std.proofs.lemmas.Bool.{cond-true, cond-false}
@@ -75,3 +77,12 @@ module _ (a p : Name) (at n : ℕ) (u v : Question) where
   pub counts_no_more : Lacks (is_word a p) u.tries → 24 ≤ length u.tries → v ≡ u → v ≡ counted a p at n u
   counts_no_more s l e =
       e ∙ sym (cond-true (too_many (tried_of a p u.tries) u.tries) u (with_tries (try_more a p at n u.tries) u) (none_usable a p u.tries s ∙ le-leb 24 (length u.tries) l))
+
+-- a first try was pushed, where there was room
+pub counts_pushed : {X : Type 0} (f : X → Tried) (a p : Name) (at n : ℕ) (w : Question) (xs ys : List X) (x : X) (r : Result (Unit {0}) X) → MatchResult r (λ _. (length xs < 24) × (ys ≡ xs ++ x ∷ [])) (λ y. (24 ≤ length xs) × (y ≡ x) × (ys ≡ xs)) → Lacks (is_word a p) (map f xs) → f x ≡ tried_first a p at n → with_tries (map f ys) w ≡ counted a p at n (with_tries (map f xs) w)
+counts_pushed f a p at n w xs ys x (Ok u) h s g =
+    let m = length-map xs f in
+    counts_new a p at n (with_tries (map f xs) w) (with_tries (map f ys) w) (f x) s (omega (arith, h.0)) g (ap (λ zs. with_tries zs w) (ap (map f) h.1 ∙ map-append f xs (x ∷ [])))
+counts_pushed f a p at n w xs ys x (Err y) h s g =
+    let m = length-map xs f in
+    counts_no_more a p at n (with_tries (map f xs) w) (with_tries (map f ys) w) s (omega (arith, h.0)) (ap (λ zs. with_tries (map f zs) w) h.2)

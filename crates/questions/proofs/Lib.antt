@@ -1,3 +1,2 @@
 mod Finding
 mod Counting
-pub mod Writing

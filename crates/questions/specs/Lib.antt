@@ -1,4 +1,3 @@
-pub mod Lends
 pub mod Tries
 pub mod Queries
 pub mod Tables

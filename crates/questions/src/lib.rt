@@ -1,13 +1,11 @@
 // What a resolver keeps of the questions under way: how often each word was asked for, and the queries that are pending.
 #![tactic(auto)]
 
-mod bounded;
 mod query;
 mod question;
 mod table;
 mod tried;
 
-pub use bounded::Bounded;
 pub use query::matching::PATIENCE;
 pub use query::{Pending, Query};
 pub use question::{MAX_WORDS, Question, Request};

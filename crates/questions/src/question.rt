@@ -1,6 +1,6 @@
 // A question under way: what was asked, and the tries for each word that it needed.
-use crate::bounded::Bounded;
 use crate::tried::Tried;
+use bounded::Bounded;
 use names::Name;
 use records::Kind;
 

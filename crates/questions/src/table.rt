@@ -1,6 +1,6 @@
 // The queries that are pending, in the order in which they were sent.
-use crate::bounded::Bounded;
 use crate::query::Pending;
+use bounded::Bounded;
 
 pub mod change;
 pub mod find;

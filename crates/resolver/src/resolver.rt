@@ -1,6 +1,7 @@
 // A resolver: what it remembers, which of its queries are pending, and which questions are under way.
+use bounded::Bounded;
 use cache::{Cache, Moment};
-use questions::{Bounded, PendingTable, Question};
+use questions::{PendingTable, Question};
 use records::Address;
 
 pub mod ask;

@@ -6,7 +6,7 @@ ghost use Rattle.machine.specs.Machine.{question};
 ghost use Rattle.questions.specs.Tries.{question_of, tries_of};
 
 use super::{Question, Request};
-use crate::bounded::Bounded;
+use bounded::Bounded;
 use names::Fault;
 use std::alloc::Global;
 

@@ -45,15 +45,8 @@ impl Question {
         requires { at < length (tries_of self.old) }
         ensures { (d : machine.Tried) → question_of self.new ≡ with_tries (slice_set (tries_of self.old) at (tried_again pending.now.place pending.now.query.id.0 (slice_index_or (tries_of self.old) at d))) (question_of self.old) }
     {
-        let tried = self.tries.at_mut(at);
-        *tried = tried.again(pending);
-    }
-
-    fn append(&mut self, tried: Tried)
-        requires { length (tries_of self.old) < 24 }
-        ensures { question_of self.new ≡ with_tries (tries_of self.old ++ tried_for tried ∷ []) (question_of self.old) }
-    {
-        self.tries.push(tried);
+        let tries = self.tries.as_mut_slice();
+        tries[at] = tries[at].again(pending);
     }
 
     // A query counts once as a try for its word; where the question may need no more words nothing changes.
@@ -63,9 +56,7 @@ impl Question {
         match self.find(&pending.query.key) {
             Some(at) => self.recount(at, pending),
             None => {
-                if !self.tries.is_full() {
-                    self.append(Tried::first(pending));
-                }
+                let _ = self.tries.push(Tried::first(pending));
             }
         }
     }

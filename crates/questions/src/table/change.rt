@@ -1,5 +1,5 @@
 // A query more, or fewer.
-ghost use Rattle.std.specs.Prelude.{◌≡◌, not, [], ◌∷◌, ◌++◌, length, if◌then◌else◌, nat_le};
+ghost use Rattle.std.specs.Prelude.{◌≡◌, not, [], ◌∷◌, ◌++◌, length, if◌then◌else◌, nat_le, is_ok, IfErr};
 ghost use Rattle.protocol.specs.Lists.{kept};
 ghost use Rattle.machine.specs.Machine.{max_pending, close_in, is_open};
 ghost use Rattle.cache.specs.Entries.{rules};
@@ -11,16 +11,13 @@ use crate::query::Pending;
 use cache::{Moment, QueryId};
 
 impl PendingTable {
-    // At the end, unless the table is full. Whether it was added is all there is to tell, so the answer is no Result.
-    pub fn add(&mut self, pending: Pending) -> bool
-        ensures told { result ≡ not (nat_le max_pending (length (table_of self.old))) }
-        ensures table { table_of self.new ≡ (if result then table_of self.old ++ pending_of pending ∷ [] else table_of self.old) }
+    // At the end; a full table hands it back.
+    pub fn add(&mut self, pending: Pending) -> Result<(), Pending>
+        ensures told { is_ok result ≡ not (nat_le max_pending (length (table_of self.old))) }
+        ensures table { table_of self.new ≡ (if is_ok result then table_of self.old ++ pending_of pending ∷ [] else table_of self.old) }
+        ensures back { IfErr result (λ x. x ≡ pending) }
     {
-        if self.queries.is_full() {
-            return false;
-        }
-        self.queries.push(pending);
-        true
+        self.queries.push(pending)
     }
 
     // The query of an id is pending no more.

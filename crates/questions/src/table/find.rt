@@ -11,8 +11,8 @@ ghost use Rattle.questions.specs.Queries.{pending_of};
 ghost use Rattle.questions.specs.Tables.{table_of};
 
 use super::PendingTable;
-use crate::bounded::Bounded;
 use crate::query::Pending;
+use bounded::Bounded;
 use cache::{Key, QueryId};
 use names::Fault;
 use std::alloc::Global;

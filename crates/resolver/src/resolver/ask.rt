@@ -11,9 +11,10 @@ ghost use Rattle.resolver.specs.Resolvers.{roots_of, rules_for, state_of, shown_
 
 use super::Resolver;
 use crate::answer::{Outcome, Shown, Standing};
+use bounded::Bounded;
 use cache::{Cache, Moment};
 use names::Fault;
-use questions::{Bounded, PendingTable, Question, Request};
+use questions::{PendingTable, Question, Request};
 use records::Address;
 use std::alloc::Global;
 
@@ -47,7 +48,7 @@ impl Resolver {
         if let Standing::Done(outcome) = self.standing(&question) {
             return Ok(Some(Shown { request, outcome }));
         }
-        self.walks.push(question);
+        let _ = self.walks.push(question);
         Ok(None)
     }
 
@@ -70,7 +71,7 @@ impl Resolver {
         ensures roots { roots_of self.new ≡ roots_of self.old }
     {
         let (place, outcome) = self.first_done()?;
-        let question = self.walks.remove(place);
+        let question = self.walks.remove(place)?;
         let request = *question.request();
         Some(Shown { request, outcome })
     }

@@ -9,7 +9,7 @@ ghost use Rattle.questions.specs.Tries.{question_of};
 ghost use Rattle.resolver.specs.Resolvers.{roots_of, rules_for, state_of, count_by};
 
 use super::Resolver;
-use cache::{Cache, Key, Moment};
+use cache::{Cache, Moment};
 use questions::{Pending, Question};
 use walks::{Ending, walk};
 
@@ -19,11 +19,7 @@ fn lacks_word(cache: &Cache, moment: Moment, question: &Question, pending: &Pend
 {
     let request = question.request();
     match walk(cache, moment, &request.name, request.kind).ending {
-        Ending::Lacks(apex, name) => pending.is_for(&Key {
-            apex,
-            name,
-            kind: request.kind,
-        }),
+        Ending::Lacks(key) => pending.is_for(&key),
         Ending::Shows(_) | Ending::TooLong => false,
     }
 }

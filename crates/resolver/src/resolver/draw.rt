@@ -56,7 +56,7 @@ impl Resolver {
         };
         let pending = self.query_for(id, &wanted);
         self.count_tries(&pending);
-        self.pending.add(pending);
+        let _ = self.pending.add(pending);
         Ok(Some(pending.query))
     }
 

@@ -77,8 +77,7 @@ impl Resolver {
         ensures kind { WantsKind (question_of question.now).kind result }
     {
         let request = question.request();
-        let kind = request.kind;
-        let course = walk(&self.cache, self.moment, &request.name, kind);
+        let course = walk(&self.cache, self.moment, &request.name, request.kind);
         let left = course.least;
         match course.ending {
             Ending::Shows(place) => Standing::Done(Outcome {
@@ -89,8 +88,7 @@ impl Resolver {
                 answer: Answer::TooLong,
                 left,
             }),
-            Ending::Lacks(apex, name) => {
-                let key = Key { apex, name, kind };
+            Ending::Lacks(key) => {
                 if question.may_use(&key) {
                     self.lacking(question, key, course.referral)
                 } else {

@@ -1,5 +1,5 @@
 // A second passes: queries run out, and count for those that came to wait for them later.
-ghost use Rattle.std.specs.Prelude.{◌≡◌, ◌+◌, not, if◌then◌else◌, nat_lt};
+ghost use Rattle.std.specs.Prelude.{◌≡◌, ◌+◌, not, if◌then◌else◌, is_some, IfSome, nat_lt};
 ghost use Rattle.protocol.specs.Lists.{kept};
 ghost use Rattle.cache.specs.Entries.{rules};
 ghost use Rattle.machine.specs.Machine.{is_open, count_all, with_walks, tick};
@@ -22,19 +22,17 @@ impl Resolver {
         }
     }
 
-    // Whether the clock went on: at the last moment that 64 bits hold there is no further tick.
-    pub fn tick(&mut self) -> bool
-        ensures told { result ≡ nat_lt (state_of self.old).now 18446744073709551615 }
-        ensures state { state_of self.new ≡ (if result then tick (rules_for self.old) (state_of self.old) else state_of self.old) }
+    // The moment to which the clock went on: at the last one that 64 bits hold there is no further tick.
+    pub fn tick(&mut self) -> Option<Moment>
+        ensures told { is_some result ≡ nat_lt (state_of self.old).now 18446744073709551615 }
+        ensures moment { IfSome result (λ m. m.0 ≡ (state_of self.new).now) }
+        ensures state { state_of self.new ≡ (if is_some result then tick (rules_for self.old) (state_of self.old) else state_of self.old) }
         ensures roots { roots_of self.new ≡ roots_of self.old }
     {
-        if self.moment.0 >= u64::MAX {
-            return false;
-        }
-        let next = Moment(self.moment.0 + 1);
+        let next = Moment(self.moment.0.checked_add(1)?);
         self.count_expired(next);
         self.pending.expire(next);
         self.moment = next;
-        true
+        Some(next)
     }
 }

@@ -7,6 +7,7 @@ use Rattle.cache.specs.Caches.{entries_of}
 use Rattle.questions.specs.Tries.{question_of}
 use Rattle.machine.specs.Machine.{question, standing, with_walks, Began}
 use Rattle.resolver.specs.Resolvers.{roots_of, rules_for, state_of, answer_for}
+use Rattle.bounded.proofs.Writing.{pushed}
 use Rattle.resolver.proofs.Asking.{no_place, done_at_once, under_way}
 use Rattle.resolver.proofs.resolver.Resolver.ask.Goals as goal
 
@@ -41,7 +42,7 @@ returns c =
     record {
       done = (
         sym (ap (λ (b : Began). b.shown) e),
-        ap (λ ws. with_walks ws (state_of self)) (ap (map question_of) c.push.ensures ∙ map-append question_of self.walks (c.in_ok-question.question ∷ []) ∙ ap (λ x. map question_of self.walks ++ (x ∷ [])) u)
+        ap (λ ws. with_walks ws (state_of self)) (ap (map question_of) (pushed 16 self.walks c.push.new.self c.in_ok-question.question c.push.result c.push.ensures (omega arith)) ∙ map-append question_of self.walks (c.in_ok-question.question ∷ []) ∙ ap (λ x. map question_of self.walks ++ (x ∷ [])) u)
             ∙ sym (ap (λ (b : Began). b.state) e),
       );
       roots = refl;

@@ -4,7 +4,7 @@ use Rattle.machine.specs.Machine.{Pending, is_open, with_walks, count_all}
 use Rattle.protocol.specs.Lists.{kept}
 use Rattle.questions.specs.Queries.{pending_of}
 use Rattle.questions.specs.Tries.{question_of}
-use Rattle.questions.proofs.Writing.{written_all}
+use Rattle.bounded.proofs.Writing.{written_all}
 use Rattle.resolver.specs.Resolvers.{rules_for, state_of}
 use Rattle.resolver.proofs.Ticking.{passed_by, counted_one, all_counted}
 use Rattle.resolver.proofs.resolver.Resolver.count_expired.Goals.{then-not-is_open, else-not-is_open}

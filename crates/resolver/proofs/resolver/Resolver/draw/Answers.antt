@@ -1,4 +1,4 @@
-use Rattle.std.proofs.Common.{None, sym, refl}
+use Rattle.std.proofs.Common.{None, sym, refl, is_ok}
 use Rattle.names.specs.Names.{labels}
 use Rattle.cache.specs.Caches.{entries_of}
 use Rattle.questions.specs.Queries.{pending_of}
@@ -41,6 +41,6 @@ returns-clause-done c =
     let found = pending_if pending_of c.args.id.0 (table_of self.pending) c.by_id.result _ c.by_id.ensures c.if-is_some.ensures in (
       send (rules_for self) (state_of self) x,
       draw_sends (rules_for self) c.args.id.0 (state_of self) w.key.kind.number (labels w.key.apex) (labels w.key.name) (servers_at (roots_of self) (entries_of self.cache) w.referral) (one_tried w.tried) c.in-Some.ensures x found (sym c.if-is_full.ensures) c.query_for-pending.ensures,
-      added (rules_for self) (state_of self) x (state_of c.count_tries.new.self) (table_of c.add.new.self) c.add.result c.count_tries.ensures.state c.add.ensures.told c.add.ensures.table (sym c.if-is_full.ensures),
+      added (rules_for self) (state_of self) x (state_of c.count_tries.new.self) (table_of c.add.new.self) (is_ok c.add.result) c.count_tries.ensures.state c.add.ensures.told c.add.ensures.table (sym c.if-is_full.ensures),
       refl,
     )

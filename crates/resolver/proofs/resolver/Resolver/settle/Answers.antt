@@ -11,8 +11,8 @@ returns-clause-shown c =
     let self = c.args.self.now in
     let at = c.in_ok-place in
     let answer = answer_for (entries_of self.cache) at.outcome.answer in
-    let q = c.remove-question.result in
-    let r = read_at question_of self.walks at.place q at.ensures.0 c.remove-question.ensures.value (question_of q) in
+    let q = c.in_ok-question.question in
+    let r = read_at question_of self.walks at.place q at.ensures.0 c.in_ok-question.ensures.1 (question_of q) in
     (λ i. Some (record { ticket = c.request-request.ensures.ticket i; name = c.request-request.ensures.name i; kind = c.request-request.ensures.kind i; answer = answer; left = at.outcome.left }))
     ∙ (λ i. Some (shown_as (r i) answer at.outcome.left))
     ∙ sym (ap (λ (s : Settled). s.shown) (at.ensures.1 (question_of q)))
@@ -21,4 +21,4 @@ pub returns-clause-state : goal.returns-clause-state
 returns-clause-state c =
     let self = c.args.self.now in
     let at = c.in_ok-place in
-    ap (λ ws. with_walks ws (state_of self)) (ap (map question_of) c.remove-question.ensures.items ∙ without question_of self.walks at.place ∙ sym (ap (λ (s : Settled). s.walks) (at.ensures.1 (question_of c.remove-question.result))))
+    ap (λ ws. with_walks ws (state_of self)) (ap (map question_of) c.in_ok-question.ensures.2 ∙ without question_of self.walks at.place ∙ sym (ap (λ (s : Settled). s.walks) (at.ensures.1 (question_of c.in_ok-question.question))))

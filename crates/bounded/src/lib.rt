@@ -1,7 +1,9 @@
 // Lists that never want for memory.
-use std::marker::Model;
+#![tactic(auto)]
 
-pub mod methods;
+mod methods;
+
+use std::marker::Model;
 
 // At most N elements. Room for all of them is made at first, so adding one never fails for memory.
 #[derive(Drop)]

@@ -1,18 +1,16 @@
 // Making such a list, reading it, and changing it in place.
-ghost use Rattle.std.specs.Prelude.{◌≡◌, ◌<◌, [], ◌∷◌, ◌++◌, length, nat_le, remove, slice_index_or, MatchResult};
+ghost use Rattle.std.specs.Prelude.{◌≡◌, ◌<◌, ◌≤◌, [], ◌∷◌, ◌++◌, length, nat_le, remove, slice_index_or, IfOk, MatchOption, MatchResult};
 ghost use Rattle.std.specs.Borrow.{sem};
 ghost use Rattle.std.specs.Fn.{CalledAt};
 ghost use Rattle.std.specs.List.Retain.{IsFiltered};
-ghost use Rattle.names.specs.declared.fault.Fault.TheVariants.{NoMemory};
-ghost use Rattle.questions.specs.Lends.{LendsAll, LendsAt};
+ghost use Rattle.bounded.specs.Lends.{LendsAll};
 
-use super::Bounded;
-use names::Fault;
-use std::alloc::Global;
+use crate::Bounded;
+use std::alloc::{AllocError, Global};
 
 impl<T, const N: usize> Bounded<T, N> {
-    pub fn new(heap: Global) -> Result<Self, Fault>
-        ensures { MatchResult result (λ b. b ≡ []) (λ f. f ≡ NoMemory) }
+    pub fn new(heap: Global) -> Result<Self, AllocError>
+        ensures { IfOk result (λ b. b ≡ []) }
     {
         let items = Vec::with_capacity(heap, N)?;
         Ok(Bounded { items })
@@ -31,35 +29,31 @@ impl<T, const N: usize> Bounded<T, N> {
         self.items.as_mut_slice()
     }
 
-    pub fn at_mut(&mut self, at: usize) -> &mut T
-        requires { at < length self.old }
-        ensures* writes_back { sem 𝓛 (LendsAt T.row N.row self.entry at result) }
-        ensures value { result.now ≡ slice_index_or self.old at result.now }
-    {
-        &mut self.items[at]
-    }
-
     pub fn is_full(&self) -> bool
         ensures { result ≡ nat_le N (length self.now) }
     {
         N <= self.items.len()
     }
 
-    // At the end.
-    pub fn push(&mut self, item: T)
-        requires { length self.old < N }
-        ensures { self.new ≡ self.old ++ item ∷ [] }
+    // At the end; a full list hands it back.
+    pub fn push(&mut self, item: T) -> Result<(), T>
+        ensures { MatchResult result (λ _. (length self.old < N) × (self.new ≡ self.old ++ item ∷ [])) (λ x. (N ≤ length self.old) × (x ≡ item) × (self.new ≡ self.old)) }
     {
+        if self.is_full() {
+            return Err(item);
+        }
         self.items.push_reserved(item);
+        Ok(())
     }
 
     // The others keep their order.
-    pub fn remove(&mut self, at: usize) -> T
-        requires { at < length self.old }
-        ensures value { result ≡ slice_index_or self.old at result }
-        ensures items { self.new ≡ remove self.old at }
+    pub fn remove(&mut self, at: usize) -> Option<T>
+        ensures { MatchOption result ((length self.old ≤ at) × (self.new ≡ self.old)) (λ x. (at < length self.old) × (x ≡ slice_index_or self.old at x) × (self.new ≡ remove self.old at)) }
     {
-        self.items.remove(at)
+        if at >= self.items.len() {
+            return None;
+        }
+        Some(self.items.remove(at))
     }
 }
 
