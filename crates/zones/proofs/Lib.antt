@@ -5,6 +5,7 @@ mod Down
 mod Beside
 mod Topmost
 mod Held
+mod Narrow
 mod Insert
 mod OneMore
 mod Spoken

@@ -115,6 +115,16 @@ module _ {A : Type 0} (test : A → Bool) where
       earlier : (j : ℕ) → j ≤ i → test (get_or xs j d) ≡ true
       earlier j m = ⊎_elim (λ lt. o d j i lt l h) (λ ge. let e : i ≡ j = omega arith in subst (λ x. test (get_or xs x d) ≡ true) e h) (cases_lt j i)
 
+-- so many of the first pass a test: those before do, and the one there doesn't
+pub leading_is : {A : Type 0} (test : A → Bool) (xs : List A) (m : ℕ) (d : A) → m ≤ length xs → ((i : ℕ) → i < m → test (get_or xs i d) ≡ true) → (m < length xs → test (get_or xs m d) ≡ false) → m ≡ leading test xs
+leading_is test xs m d l before there =
+    let w = leading_within test xs in
+    ⊎_elim
+    (λ (lt : m < leading test xs). absurd (true≢false (sym (passes test xs d m lt) ∙ there (omega arith))))
+    (λ (ge : leading test xs ≤ m).
+    ⊎_elim (λ (lt : leading test xs < m). absurd (true≢false (sym (before (leading test xs) lt) ∙ fails test xs d (omega arith)))) (λ (le : m ≤ leading test xs). omega arith) (cases_lt (leading test xs) m))
+    (cases_lt m (leading test xs))
+
 -- an element that the code reads, in the list of what the elements stand for
 module _ {X A : Type 0} (f : X → A) (xs : List X) where
   pub read_at : (i : ℕ) (x : X) → i < length xs → x ≡ get_or xs i x → get_or (map f xs) i (f x) ≡ f x

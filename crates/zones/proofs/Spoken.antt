@@ -1,5 +1,6 @@
 -- What a zone says, by what its searches found.
-use Rattle.std.proofs.Common.{◌≡◌, ℕ, Bool, true, false, cond, not, ◌&&◌, ◌==◌, List, Some, None, Option, sym, refl, ap, ◌∙◌, true≢false}
+use Rattle.std.proofs.Common.{◌≡◌, ℕ, Bool, true, false, cond, not, ◌&&◌, ◌==◌, List, is_some, Some, None, Option, sym, refl, ap, ◌∙◌, true≢false}
+use Rattle.std.specs.Option.{option_map, IfSome}
 use Rattle.std.proofs.lemmas.Bool.{and_parts}
 use Rattle.names.specs.Order.{within}
 use Rattle.meaning.specs.Model.{delegates, Set, Zone}
@@ -7,7 +8,9 @@ use Rattle.meaning.specs.Says.{Speaker, ByDelegation, BySet, ByAlias, NoData, No
 use Rattle.meaning.specs.Speech.{undelegated}
 use Rattle.meaning.proofs.Finding.{Found, some, none, finds}
 use Rattle.meaning.proofs.Rules.{same_so}
+use Rattle.zones.specs.declared.reply.Reply.{Reply}
 use Rattle.zones.specs.Valid.{all_belong}
+use Rattle.zones.specs.Zones.{speaker_of}
 use Rattle.zones.proofs.Topmost.{belong_at, none_outside}
 
 -- ss are the zone's sets, and j is the kind as it was asked for
@@ -55,11 +58,8 @@ module _ (z : Zone) (v : all_belong z.apex z.sets ≡ true) (q : List (List ℕ)
       none_of : (j : ℕ) → None ≡ find (is_exactly q j) z.sets
       none_of j = none_at (is_exactly q j) (λ s p. same_so s.name q (and_parts (same s.name q) (s.kind == j) p).0)
 
--- within the apex or not
-pub said : (z : Zone) (q : List (List ℕ)) (k : ℕ) (a : Speaker) → true ≡ within z.apex q → a ≡ speaker z q k → Some a ≡ says z q k
+-- within the apex or not, by what is told
+pub said_then : (z : Zone) (q : List (List ℕ)) (k : ℕ) (r : Option Reply) (P : Reply → Type 0) → is_some r ≡ within z.apex q → IfSome r P → ((x : Reply) → P x → speaker_of x ≡ speaker z q k) → option_map speaker_of r ≡ says z q k
 unfolding says
-said z q k a h e = (λ i. cond (h i) (Some (e i)) None)
-
-pub unsaid : (z : Zone) (q : List (List ℕ)) (k : ℕ) → false ≡ within z.apex q → None ≡ says z q k
-unfolding says
-unsaid z q k h = ap (λ b. cond b (Some (speaker z q k)) None) h
+said_then z q k None P b h by = ap (λ c. cond c (Some (speaker z q k)) None) b
+said_then z q k (Some x) P b h by = ap Some (by x h) ∙ ap (λ c. cond c (Some (speaker z q k)) None) b

@@ -1,4 +1,4 @@
-use Rattle.std.proofs.Common.{map, vec_items, sym, refl, ap, ◌∙◌}
+use Rattle.std.proofs.Common.{vec_items, sym, refl, ap, ◌∙◌}
 use Rattle.records.specs.Sets.{set_of}
 use Rattle.meaning.specs.Laws.{is_hidden, keep}
 use Rattle.zones.specs.Zones.{zone_of}
@@ -21,4 +21,4 @@ loop-set-preserved c =
 pub returns : goal.returns
 returns c =
     all_picked (is_hidden (zone_of c.args.self.now)) set_of (λ s. set_of s.now) c.as_slice-set-items.result.now (vec_items c.loop-set.found) c.loop-set.set-index c.loop-set.invariant c.loop-set-test.false
-    ∙ ap (λ xs. keep (is_hidden (zone_of c.args.self.now)) (map set_of xs)) c.as_slice-set-items.ensures.value
+    ∙ ap (keep (is_hidden (zone_of c.args.self.now))) c.as_slice-set-items.ensures
