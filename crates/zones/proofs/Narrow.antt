@@ -1,5 +1,5 @@
 -- Where sets can stand at a name, by the fronts alone, and the place of a name and kind among them.
-use Rattle.std.proofs.Common.{◌≡◌, ℕ, ◌+◌, ◌-◌, ◌<◌, ◌≤◌, Bool, true, false, eqb, ltb, List, [], ◌∷◌, map, length, get_or, take, drop, Ordering, Less, Equal, Greater, sym, refl, ap, ◌∙◌, subst, ⊎_elim, true≢false, length-drop, arith}
+use Rattle.std.proofs.Common.{◌≡◌, ℕ, ◌+◌, ◌-◌, ◌<◌, ◌≤◌, Bool, true, false, eqb, ltb, ◌⊎◌, List, [], ◌∷◌, map, length, get_or, take, drop, Ordering, Less, Equal, Greater, sym, refl, ap, ◌∙◌, inl, inr, min, ⊎_elim, true≢false, length-drop, arith}
 use mathlib.Core.List.Memᴰ
 use lib.ListN.{length-map}
 use Rattle.std.specs.List.Sorted.{IsPartitionPoint, IsPartitionedBy, IsNonDecreasingBy}
@@ -132,40 +132,60 @@ module _ (apex : List (List ℕ)) (xs : List RecordSet) (fs : List ℕ) (o : sor
         let u = eqb-true (get_or rest j d) sought e in
         eq-eqb (get_or rest i d) sought (omega arith)
 
-    pub narrowed : (alike : ℕ) → alike ≤ length rest → IsPartitionPoint (λ y. eqb y sought ≡ true) (λ y. eqb y sought ≡ false) rest alike → Narrowed apex (labels n) (map set_of xs) low (low + alike)
-    narrowed alike in_rest q = record {
-      rise = omega arith;
-      bound = let r = rest_len in let k = many in let c = length-map xs set_of in omega arith;
+    -- from high on the fronts are higher
+    by_fronts : (high : ℕ) → low ≤ high → high ≤ length fs → ((i : ℕ) → high ≤ i → i < length fs → sought < get_or fs i 0) → Narrowed apex (labels n) (map set_of xs) low high
+    by_fronts high u v after = record {
+      rise = u;
+      bound = let k = many in let c = length-map xs set_of in omega arith;
       before = λ i d l.
           let k = many in
           let a = at_of xs i (omega arith) in
-          ahead i d l (omega arith) a.0 a.1;
+          first i d l (omega arith) a.0 a.1;
       behind = λ i d l r.
           let c = length-map xs set_of in
           let a = at_of xs i (omega arith) in
-          after i d l (omega arith) a.0 a.1;
+          last i d l (omega arith) a.0 a.1;
       asked = λ l. w;
     }
       where
-        ahead : (i : ℕ) (d : Set) → i < low → i < length xs → (x : RecordSet) → Is i x → is_lt (order (get_or (map set_of xs) i d).name (labels n)) ≡ true
-        ahead i d l k x e =
+        first : (i : ℕ) (d : Set) → i < low → i < length xs → (x : RecordSet) → Is i x → is_lt (order (get_or (map set_of xs) i d).name (labels n)) ≡ true
+        first i d l k x e =
             let f = front_there i 0 k x e in
             let g = ltb-true (get_or fs i 0) sought (p.0 i 0 (omega arith) l) in
             ap (λ (s : Set). is_lt (order s.name (labels n))) (e d) ∙ ap is_lt (front_order apex x.name n (in_apex i k x e) w (omega arith))
 
-        after : (i : ℕ) (d : Set) → low + alike ≤ i → i < length xs → (x : RecordSet) → Is i x → is_lt (order (labels n) (get_or (map set_of xs) i d).name) ≡ true
-        after i d l k x e =
+        last : (i : ℕ) (d : Set) → high ≤ i → i < length xs → (x : RecordSet) → Is i x → is_lt (order (labels n) (get_or (map set_of xs) i d).name) ≡ true
+        last i d l k x e =
             let c = many in
-            let r = rest_len in
             let f = front_there i 0 k x e in
-            let g = from_low i 0 (omega arith) (omega arith) in
+            let g = after i l (omega arith) in
+            ap (λ (s : Set). is_lt (order (labels n) s.name)) (e d) ∙ ap is_lt (front_order apex n x.name w (in_apex i k x e) (omega arith))
+
+    -- those with the same front
+    pub narrowed : (alike : ℕ) → alike ≤ length rest → IsPartitionPoint (λ y. eqb y sought ≡ true) (λ y. eqb y sought ≡ false) rest alike → Narrowed apex (labels n) (map set_of xs) low (low + alike)
+    narrowed alike few q = let r = rest_len in by_fronts (low + alike) (omega arith) (omega arith) higher
+      where
+        higher : (i : ℕ) → low + alike ≤ i → i < length fs → sought < get_or fs i 0
+        higher i l k =
+            let r = rest_len in
+            let g = from_low i 0 (omega arith) k in
             let j : low + (i - low) ≡ i = omega arith in
-            let other = q.1 (i - low) 0 (omega arith) (omega arith) in
             let at : get_or rest (i - low) 0 ≡ get_or fs i 0 = rest_at (i - low) 0 (omega arith) ∙ ap (λ y. get_or fs y 0) j in
-            ⊎_elim
-            (λ (lt : sought < get_or fs i 0). ap (λ (s : Set). is_lt (order (labels n) s.name)) (e d) ∙ ap is_lt (front_order apex n x.name w (in_apex i k x e) (omega arith)))
-            (λ (ge : get_or fs i 0 ≤ sought). absurd (true≢false (sym (eq-eqb (get_or rest (i - low) 0) sought (omega arith)) ∙ other)))
+            ⊎_elim (λ lt. lt)
+            (λ (ge : get_or fs i 0 ≤ sought). absurd (true≢false (sym (eq-eqb (get_or rest (i - low) 0) sought (omega arith)) ∙ q.1 (i - low) 0 (omega arith) (omega arith))))
             (cases_lt sought (get_or fs i 0))
+
+    -- one alone, where the next has another front or there is none
+    pub narrowed_one : (length fs - low < 2) ⊎ ((low + 1 < length fs) × (get_or fs (low + 1) 0 ≡ sought → ⊥)) → Narrowed apex (labels n) (map set_of xs) low (min (length fs) (low + 1))
+    narrowed_one (inl short) = by_fronts (min (length fs) (low + 1)) (omega arith) (omega arith) (λ i l k. absurd (omega arith))
+    narrowed_one (inr other) = by_fronts (min (length fs) (low + 1)) (omega arith) (omega arith) higher
+      where
+        higher : (i : ℕ) → min (length fs) (low + 1) ≤ i → i < length fs → sought < get_or fs i 0
+        higher i l k =
+            let a = other.0 in
+            let g = from_low (low + 1) 0 (omega arith) a in
+            let h = fronts_rise (low + 1) i 0 (omega arith) k in
+            ⊎_elim (λ (lt : sought < get_or fs (low + 1) 0). omega arith) (λ (ge : get_or fs (low + 1) 0 ≤ sought). absurd (other.1 (omega arith))) (cases_lt sought (get_or fs (low + 1) 0))
 
 -- ---- the place among those that are left
 

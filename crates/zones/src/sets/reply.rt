@@ -1,6 +1,7 @@
 // What sorted sets say of a name and kind that no delegation is over.
 ghost use Rattle.std.specs.Prelude.{◌≡◌, true, [], ◌∷◌};
 ghost use Rattle.names.specs.Names.{labels};
+ghost use Rattle.names.specs.Order.{within};
 ghost use Rattle.meaning.specs.Speech.{undelegated};
 ghost use Rattle.records.specs.Sets.{set_of};
 ghost use Rattle.zones.specs.Sorted.{set_at};
@@ -47,10 +48,12 @@ impl SortedSets {
     // The two sets on both sides of the place of the name and kind say it: an alias stands alone at its name, and what is
     // below a name stands right behind it.
     pub fn reply_among(&self, name: &Name, kind: Kind) -> Reply<'_>
-        requires { no_clash (sets_of self.now) ≡ true }
+        requires alone { no_clash (sets_of self.now) ≡ true }
+        requires asked { within (labels self.now.apex) (labels name.now) ≡ true }
         ensures { speaker_of result ≡ undelegated (labels name.now) kind.number (sets_of self.now) }
     {
-        let at = self.position(name, kind);
+        let (low, high) = self.narrow_within(name);
+        let at = self.place_between(low, high, name, kind);
         let here = self.reply_at(at, name, kind);
         if here.is_data() || at == 0 {
             return here;

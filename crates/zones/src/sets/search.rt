@@ -1,7 +1,8 @@
 // Searches of sorted sets: each halves, and finds what a look through all of them would find, of names outside the apex too.
-ghost use Rattle.std.specs.Prelude.{◌≡◌, ◌≤◌, length};
+ghost use Rattle.std.specs.Prelude.{◌≡◌, ◌≤◌, true, length};
 ghost use Rattle.std.specs.Option.{option_map};
 ghost use Rattle.names.specs.Names.{labels};
+ghost use Rattle.names.specs.Order.{within};
 ghost use Rattle.meaning.specs.Says.{is_over, is_exactly, find, highest, any_under};
 ghost use Rattle.records.specs.Sets.{set_of};
 ghost use Rattle.zones.specs.Sorted.{is_before_below, is_ahead_below, place, Narrowed};
@@ -38,20 +39,50 @@ pub fn is_exactly(set: &RecordSet, name: &Name, kind: Kind) -> bool
 }
 
 impl SortedSets {
-    // From where to where a set could stand at a name: those before have names before it, those behind have names behind it.
-    // Labels need to be compared only between the two, where the fronts are the same.
-    fn narrow(&self, name: &Name) -> (usize, usize)
+    // From where to where sets could stand at a name within the apex: those before have names before it, those behind have
+    // names behind it. Only between the two, where the fronts are mostly the same, do labels have to be compared.
+    pub fn narrow_within(&self, name: &Name) -> (usize, usize)
+        requires { within (labels self.now.apex) (labels name.now) ≡ true }
         ensures { Narrowed (labels self.now.apex) (labels name.now) (sets_of self.now) result.0 result.1 }
     {
-        if !name.is_within(&self.apex) {
-            let at = if *name < self.apex { 0 } else { self.sets.len() };
-            return (at, at);
-        }
         let sought = name.front_below(self.apex.label_count());
         let fronts = self.fronts.as_slice();
         let low = fronts.partition_point(|front| *front < sought);
-        let alike = fronts[low..].partition_point(|front| *front == sought);
-        (low, low + alike)
+        // Most fronts stand alone, so a look at the next one saves a second search.
+        if fronts.len() - low < 2 || fronts[low + 1] != sought {
+            return (low, fronts.len().min(low + 1));
+        }
+        (low, low + fronts[low..].partition_point(|front| *front == sought))
+    }
+
+    // The same of any name: outside the apex it stands before all sets, or behind them.
+    fn narrow(&self, name: &Name) -> (usize, usize)
+        ensures { Narrowed (labels self.now.apex) (labels name.now) (sets_of self.now) result.0 result.1 }
+    {
+        if name.is_within(&self.apex) {
+            return self.narrow_within(name);
+        }
+        let at = if *name < self.apex { 0 } else { self.sets.len() };
+        (at, at)
+    }
+
+    // How many sets stand before a name and kind, where sets could stand at the name only from low to high.
+    pub fn place_between(&self, low: usize, high: usize, name: &Name, kind: Kind) -> usize
+        requires { Narrowed (labels self.now.apex) (labels name.now) (sets_of self.now) low high }
+        ensures value { result ≡ place (labels name.now) kind.number (sets_of self.now) }
+        ensures bound { result ≤ length (sets_of self.now) }
+    {
+        let depth = self.apex.label_count();
+        low + self.sets.as_slice()[low..high].partition_point(|set| is_before(set, name, kind, depth))
+    }
+
+    // How many sets stand before a name and kind.
+    pub fn position(&self, name: &Name, kind: Kind) -> usize
+        ensures value { result ≡ place (labels name.now) kind.number (sets_of self.now) }
+        ensures bound { result ≤ length (sets_of self.now) }
+    {
+        let (low, high) = self.narrow(name);
+        self.place_between(low, high, name, kind)
     }
 
     // How many sets have names before a name.
@@ -61,16 +92,6 @@ impl SortedSets {
         let (low, high) = self.narrow(name);
         let depth = self.apex.label_count();
         low + self.sets.as_slice()[low..high].partition_point(|set| is_ahead(set, name, depth))
-    }
-
-    // How many sets stand before a name and kind.
-    pub fn position(&self, name: &Name, kind: Kind) -> usize
-        ensures value { result ≡ place (labels name.now) kind.number (sets_of self.now) }
-        ensures bound { result ≤ length (sets_of self.now) }
-    {
-        let (low, high) = self.narrow(name);
-        let depth = self.apex.label_count();
-        low + self.sets.as_slice()[low..high].partition_point(|set| is_before(set, name, kind, depth))
     }
 
     // The set of a name and kind.
