@@ -1,5 +1,6 @@
 // Keeping the topmost delegations as sets come in.
-ghost use Rattle.std.specs.Prelude.{◌≡◌, ◌<◌, true, [], None, length, vec_len, vec_capacity, MatchResult};
+ghost use Rattle.std.specs.Prelude.{◌≡◌, ◌+◌, ◌<◌, ◌≤◌, true, [], None, vec_len, vec_capacity, MatchResult};
+ghost use Rattle.std.specs.List.{remove_range};
 ghost use Rattle.names.specs.declared.fault.Fault.TheVariants.{NoMemory};
 ghost use Rattle.names.specs.Names.{labels};
 ghost use Rattle.names.specs.Order.{within};
@@ -9,6 +10,17 @@ ghost use Rattle.zones.specs.Zones.{cuts_in};
 use super::Cuts;
 use names::{Fault, Name};
 use std::alloc::Global;
+
+// So many names from an index on go. A drain moves all that are behind it, even where none goes.
+fn take_out(names: &mut Vec<Name>, at: usize, count: usize)
+    requires { at + count ≤ vec_len names.old }
+    ensures items { names.new.items ≡ remove_range names.old.items at (at + count) }
+    ensures capacity { vec_capacity names.new ≡ vec_capacity names.old }
+{
+    if count > 0 {
+        drop(names.drain(at..at + count));
+    }
+}
 
 impl Cuts {
     pub fn new(heap: Global, apex: Name) -> Cuts
@@ -41,7 +53,7 @@ impl Cuts {
     {
         let at = self.position(&name);
         let below = self.names.as_slice()[at..].partition_point(|cut| cut.is_within(&name));
-        drop(self.names.drain(at..at + below));
+        take_out(&mut self.names, at, below);
         let _ = self.names.insert(at, name);
     }
 }

@@ -23,7 +23,8 @@ impl Cuts {
         ensures bound { result ≤ length (cuts_in self.now) }
     {
         let depth = self.apex.label_count();
-        self.names.as_slice().partition_point(|cut| is_up_to(cut, name, depth))
+        let names = self.names.as_slice();
+        names.partition_point(|cut| is_up_to(cut, name, depth))
     }
 
     // The one at a name or above it.

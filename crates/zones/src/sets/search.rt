@@ -52,7 +52,8 @@ impl SortedSets {
         if fronts.len() - low < 2 || fronts[low + 1] != sought {
             return (low, fronts.len().min(low + 1));
         }
-        (low, low + fronts[low..].partition_point(|front| *front == sought))
+        let alike = fronts[low..].partition_point(|front| *front == sought);
+        (low, low + alike)
     }
 
     // The same of any name: outside the apex it stands before all sets, or behind them.
@@ -62,7 +63,11 @@ impl SortedSets {
         if name.is_within(&self.apex) {
             return self.narrow_within(name);
         }
-        let at = if *name < self.apex { 0 } else { self.sets.len() };
+        let at = if *name < self.apex {
+            0
+        } else {
+            self.sets.len()
+        };
         (at, at)
     }
 
@@ -73,7 +78,8 @@ impl SortedSets {
         ensures bound { result ≤ length (sets_of self.now) }
     {
         let depth = self.apex.label_count();
-        low + self.sets.as_slice()[low..high].partition_point(|set| is_before(set, name, kind, depth))
+        let between = &self.sets.as_slice()[low..high];
+        low + between.partition_point(|set| is_before(set, name, kind, depth))
     }
 
     // How many sets stand before a name and kind.
@@ -91,7 +97,8 @@ impl SortedSets {
     {
         let (low, high) = self.narrow(name);
         let depth = self.apex.label_count();
-        low + self.sets.as_slice()[low..high].partition_point(|set| is_ahead(set, name, depth))
+        let alike = &self.sets.as_slice()[low..high];
+        low + alike.partition_point(|set| is_ahead(set, name, depth))
     }
 
     // The set of a name and kind.

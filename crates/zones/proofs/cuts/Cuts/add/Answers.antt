@@ -9,7 +9,6 @@ use Rattle.zones.specs.Zones.{cuts_in}
 use Rattle.zones.proofs.OneMore.{fewer, below_part, put_over, new_apart, new_below}
 use Rattle.zones.proofs.cuts.Cuts.add.Goals as goal
 
-
 pub invariant_of-self : goal.invariant_of-self
 invariant_of-self c =
     let s = c.args.self.now in
@@ -21,11 +20,11 @@ invariant_of-self c =
     let o = subst (λ zs. apart (map labels zs) ≡ true) (sym e) s.ordered in
     let q = c.partition_point-below.ensures.partitioned (λ x. within n (labels x)) (always_returns_same _ _ _ (λ x r f k. search (rules, of_calls))) (below_part labels n xs o at p) in
     let m = c.partition_point-below.result in
-    let kept = c.drop.ensures.items ∙ c.drain.ensures.kept ∙ ap (λ zs. remove_range zs at (at + m)) (sym e) in
-    let fits = fewer xs (vec_items c.drop.new.self.0) at (at + m) (omega arith) kept in
-    let full = c.drop.ensures.capacity ∙ c.drain.ensures.capacity in
-    let is = put_over labels n xs o at p m c.partition_point-below.ensures.bound q c.args.name (vec_items c.drop.new.self.0) (vec_items c.insert.new.self) refl kept
-    (c.insert.ensures.items ∙ cond-true (is_ok c.insert.result) (insert (vec_items c.drop.new.self.0) at c.args.name) (vec_items c.drop.new.self.0) (c.insert.ensures.succeeds (omega (arith, fits, full, c.requires.room, c.drop.new.self.0.ok.0, ap length e, c.args.self.now.names.ok.0)))) ∙ ap (λ zs. with_cut n (map labels zs)) e in
+    let kept = c.take_out.ensures.items ∙ ap (λ zs. remove_range zs at (at + m)) (sym e) in
+    let fits = fewer xs (vec_items c.take_out.new.names) at (at + m) (omega arith) kept in
+    let full = c.take_out.ensures.capacity in
+    let is = put_over labels n xs o at p m c.partition_point-below.ensures.bound q c.args.name (vec_items c.take_out.new.names) (vec_items c.insert.new.self) refl kept
+    (c.insert.ensures.items ∙ cond-true (is_ok c.insert.result) (insert (vec_items c.take_out.new.names) at c.args.name) (vec_items c.take_out.new.names) (c.insert.ensures.succeeds (omega (arith, fits, full, c.requires.room, c.take_out.new.names.ok.0, ap length e, c.args.self.now.names.ok.0)))) ∙ ap (λ zs. with_cut n (map labels zs)) e in
     record {
       ordered = ap apart is ∙ new_apart n (cuts_in s) s.ordered (sym c.requires.topmost);
       inside = ap (all_below (labels s.apex)) is ∙ new_below (labels s.apex) n (cuts_in s) c.requires.inside s.inside;
@@ -42,8 +41,8 @@ returns-clause-cuts c =
     let o = subst (λ zs. apart (map labels zs) ≡ true) (sym e) s.ordered in
     let q = c.partition_point-below.ensures.partitioned (λ x. within n (labels x)) (always_returns_same _ _ _ (λ x r f k. search (rules, of_calls))) (below_part labels n xs o at p) in
     let m = c.partition_point-below.result in
-    let kept = c.drop.ensures.items ∙ c.drain.ensures.kept ∙ ap (λ zs. remove_range zs at (at + m)) (sym e) in
-    let fits = fewer xs (vec_items c.drop.new.self.0) at (at + m) (omega arith) kept in
-    let full = c.drop.ensures.capacity ∙ c.drain.ensures.capacity in
-    put_over labels n xs o at p m c.partition_point-below.ensures.bound q c.args.name (vec_items c.drop.new.self.0) (vec_items c.insert.new.self) refl kept
-    (c.insert.ensures.items ∙ cond-true (is_ok c.insert.result) (insert (vec_items c.drop.new.self.0) at c.args.name) (vec_items c.drop.new.self.0) (c.insert.ensures.succeeds (omega (arith, fits, full, c.requires.room, c.drop.new.self.0.ok.0, ap length e, c.args.self.now.names.ok.0)))) ∙ ap (λ zs. with_cut n (map labels zs)) e
+    let kept = c.take_out.ensures.items ∙ ap (λ zs. remove_range zs at (at + m)) (sym e) in
+    let fits = fewer xs (vec_items c.take_out.new.names) at (at + m) (omega arith) kept in
+    let full = c.take_out.ensures.capacity in
+    put_over labels n xs o at p m c.partition_point-below.ensures.bound q c.args.name (vec_items c.take_out.new.names) (vec_items c.insert.new.self) refl kept
+    (c.insert.ensures.items ∙ cond-true (is_ok c.insert.result) (insert (vec_items c.take_out.new.names) at c.args.name) (vec_items c.take_out.new.names) (c.insert.ensures.succeeds (omega (arith, fits, full, c.requires.room, c.take_out.new.names.ok.0, ap length e, c.args.self.now.names.ok.0)))) ∙ ap (λ zs. with_cut n (map labels zs)) e

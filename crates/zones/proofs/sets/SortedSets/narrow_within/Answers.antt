@@ -38,7 +38,7 @@ returns c =
     let low = c.partition_point-low.result in
     let p = c.partition_point-low.ensures.partitioned (λ y. ltb y c.front_below-sought.result) (always_returns_same _ _ _ (λ x r f k. search (rules, of_calls)))
     (IsPartitionedBy-ltb (λ y. y) fs c.front_below-sought.result (fronts_rise a (vec_items s.sets) fs s.ordered s.inside m)) in
-    let q = c.partition_point.ensures.partitioned (λ y. eqb y c.front_below-sought.result) (always_returns_same _ _ _ (λ x r f k. search (rules, of_calls)))
+    let q = c.partition_point-alike.ensures.partitioned (λ y. eqb y c.front_below-sought.result) (always_returns_same _ _ _ (λ x r f k. search (rules, of_calls)))
     (alike_part a (vec_items s.sets) fs s.ordered s.inside m c.args.name.now (c.requires) c.front_below-sought.result h low c.partition_point-low.ensures.bound p) in
     narrowed a (vec_items s.sets) fs s.ordered s.inside m c.args.name.now (c.requires) c.front_below-sought.result h low c.partition_point-low.ensures.bound p
-    c.partition_point.result c.partition_point.ensures.bound q
+    c.partition_point-alike.result c.partition_point-alike.ensures.bound q
