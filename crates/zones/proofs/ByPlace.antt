@@ -150,18 +150,6 @@ pub shown : {R A : Type 0} (g : R → A) (b : Bool) (r : R) → option_map g (th
 shown g true r = refl
 shown g false r = refl
 
-rank_less : (x k : ℕ) (r : Ordering) → MatchOrdering r (x < k) (x ≡ k) (k < x) → ltb x k ≡ is_lt r
-rank_less x k Less h = lt-ltb x k h
-rank_less x k Equal h = le-ltb x k (omega arith)
-rank_less x k Greater h = le-ltb x k (omega arith)
-
-pub kind_less : (x k : ℕ) → ltb x k ≡ is_lt (nat_cmp x k)
-kind_less x k = rank_less x k (nat_cmp x k) (ranks x k)
-
--- the labels below the apex decide
-pub before_found : (apex n m : List (List ℕ)) (k d : ℕ) (s : Set) (r : Ordering) → within apex s.name ≡ true → within apex n ≡ true → d ≡ length apex → m ≡ s.name → r ≡ order (drop d m) (drop d n) → is_lt (ordering_then r (nat_cmp s.kind k)) ≡ is_before n k s
-before_found apex n m k d s r v w e f h = ap (λ x. is_lt (ordering_then x (nat_cmp s.kind k))) (h ∙ (λ i. order (drop (e i) (f i)) (drop (e i) n)) ∙ order_below apex s.name n v w)
-
 module _ {X : Type 0} (f : X → Set) (xs : List X) (n : List (List ℕ)) (k : ℕ) where
   -- the set at the place is the one, or none is
   pub exact_read : sorted (map f xs) ≡ true → (i : ℕ) (x : X) → i ≡ place n k (map f xs) → i < length xs → x ≡ get_or xs i x → true ≡ is_exactly n k (f x) → Some (f x) ≡ find (is_exactly n k) (map f xs)

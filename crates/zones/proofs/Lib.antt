@@ -4,7 +4,6 @@ mod ByPlace
 mod Down
 mod Beside
 mod Topmost
-mod Held
 mod Narrow
 mod Insert
 mod OneMore

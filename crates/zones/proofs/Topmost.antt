@@ -1,5 +1,5 @@
 -- The topmost delegations: the one over a name speaks of it, and one search finds it.
-use Rattle.std.proofs.Common.{◌≡◌, ℕ, zero, suc, ◌-◌, ◌<◌, ◌≤◌, Bool, true, false, cond, not, ◌&&◌, ◌||◌, eqb, ltb, List, [], ◌∷◌, map, length, get_or, take, drop, is_some, Some, None, Option, Ordering, Less, Equal, Greater, sym, refl, ap, ◌∙◌, subst, ⊎_elim, true≢false, arith}
+use Rattle.std.proofs.Common.{◌≡◌, ℕ, zero, suc, ◌-◌, ◌<◌, ◌≤◌, Bool, true, false, cond, not, ◌&&◌, ◌||◌, eqb, ltb, leb, List, [], ◌∷◌, map, length, get_or, take, drop, is_some, Some, None, Option, Ordering, Less, Equal, Greater, sym, refl, ap, ◌∙◌, subst, ⊎_elim, true≢false, arith}
 use mathlib.Core.List.Memᴰ
 use mathlib.Core.List.{Memᴰ}
 use lib.ListN.{length-map}
@@ -17,7 +17,7 @@ use Rattle.meaning.proofs.Rules.{same_so, so_same}
 use Rattle.meaning.proofs.Saying.{no_longer}
 use Rattle.zones.specs.Sorted as sorts
 use Rattle.zones.specs.Sorted.{sorted, leading, each}
-use Rattle.zones.specs.Valid.{belongs, all_belong}
+use Rattle.zones.specs.Valid.{belongs, all_belong, no_clash, valid}
 use Rattle.zones.specs.Cuts.{apart, all_below, all_there, all_covered, cuts_of, cut_place, cut_over, is_up_to_below}
 use Rattle.zones.proofs.Places.{mem_at, index_of, Falls, leading_is, passes, leading_within, right_half, read_at}
 use Rattle.zones.proofs.ByPlace.{distinct}
@@ -294,6 +294,9 @@ pub covered_so : (cs : List (List (List ℕ))) (s : Set) → (not (delegates s.k
 covered_so cs s h e =
     some_so (λ c. within c s.name) cs (⊎_elim (λ f. absurd (true≢false (sym f ∙ not_from_true (delegates s.kind) e))) (λ g. g) (or_cases (not (delegates s.kind)) (sorts.some (λ c. within c s.name) cs) h))
 
+pub all_belong_lem : (apex : List (List ℕ)) (ss : List Set) → valid apex ss ≡ true → all_belong apex ss ≡ true
+all_belong_lem apex ss v = (and_parts (all_belong apex ss) (no_clash ss) (and_parts (all_belong apex ss && no_clash ss) (leb (length ss) 4096) v).0).0
+
 pub belong_at : (apex : List (List ℕ)) (ss : List Set) → all_belong apex ss ≡ true → (t : Set) → Memᴰ t ss → belongs apex t ≡ true
 belong_at apex [] h t m = absurd (Memᴰ.not-nil m)
 belong_at apex (s ∷ ss) h t m =
@@ -377,10 +380,3 @@ none_outside apex ss inside q f = go (highest (is_over apex q) ss) (finds_highes
         let c = and_parts (within apex t.name) (not (delegates t.kind && same t.name apex)) (belong_at apex ss inside t m) in
         absurd (true≢false (sym (within_laws.transitive apex t.name q c.0 b.1) ∙ f))
     go y (none_high never) = refl
-
-pub cut_inside : (apex n c : List (List ℕ)) (cs : List (List (List ℕ))) → all_below apex cs ≡ true → Some c ≡ cut_over n cs → within apex c ≡ true
-cut_inside apex n c cs h e = go (cut_over n cs) (looks_over n cs) e
-  where
-    go : (x : Option (List (List ℕ))) → Covers n cs x → Some c ≡ x → within apex c ≡ true
-    go x (covers d m w) f = let s : c ≡ d = cc in subst (λ y. within apex y ≡ true) (sym s) (each_so (within apex) cs h d m)
-    go x (uncovered never) f = let z : ◌≡◌ {A = ℕ} 0 1 = cc in absurd (omega arith)

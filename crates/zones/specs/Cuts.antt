@@ -45,10 +45,6 @@ unfoldable pub beyond : List (List ℕ) → List (List (List ℕ)) → List (Lis
 beyond n [] = []
 beyond n (c ∷ cs) = cond (within n c) (beyond n cs) (c ∷ cs)
 
-abbrev pub next_below : List (List ℕ) → List (List (List ℕ)) → Bool
-next_below n [] = false
-next_below n (c ∷ cs) = within n c
-
 -- a name more, in its place, where none is over it
 unfoldable pub with_cut : List (List ℕ) → List (List (List ℕ)) → List (List (List ℕ))
 with_cut n [] = n ∷ []

@@ -73,13 +73,8 @@ impl Zone {
     pub fn hidden(&self, heap: Global) -> Result<Vec<&RecordSet>, Fault>
         ensures { MatchResult result (λ v. map (λ s. set_of s.now) v.items ≡ hidden (zone_of self.now)) (λ f. f ≡ NoMemory) }
     {
-        let mut found = Vec::new(heap);
-        for set in self.sets.as_slice() {
-            if self.is_hidden(set) {
-                found.push(set)?;
-            }
-        }
-        Ok(found)
+        let sets = self.sets.as_slice().iter();
+        Ok(sets.filter(|set| self.is_hidden(set)).collect(heap)?)
     }
 
     pub fn apex(&self) -> &Name

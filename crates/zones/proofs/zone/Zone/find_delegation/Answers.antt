@@ -1,8 +1,7 @@
 use Rattle.std.proofs.Common.{◌≡◌, Some, None, ap, ◌∙◌}
 use Rattle.names.specs.Names.{labels}
 use Rattle.zones.specs.Zones.{sets_of, cuts_in}
-use Rattle.zones.proofs.Held.{all_belong_lem}
-use Rattle.zones.proofs.Topmost.{right_so, none_speaks, cut_speaks}
+use Rattle.zones.proofs.Topmost.{all_belong_lem, right_so, none_speaks, cut_speaks}
 use Rattle.zones.proofs.zone.Zone.find_delegation.Goals as goal
 
 pub returns-in_err-find : goal.returns-in_err-find

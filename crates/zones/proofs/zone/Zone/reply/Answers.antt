@@ -1,9 +1,9 @@
-use Rattle.std.proofs.Common.{true, false, sym, refl, ap, ◌∙◌}
+use Rattle.std.proofs.Common.{true, false, sym, ap, ◌∙◌}
 use Rattle.names.specs.Names.{labels}
 use Rattle.names.specs.Order.{within}
 use Rattle.records.specs.Sets.{set_of}
 use Rattle.zones.specs.Zones.{zone_of, speaker_of}
-use Rattle.zones.proofs.Held.{all_belong_lem}
+use Rattle.zones.proofs.Topmost.{all_belong_lem}
 use Rattle.zones.proofs.Spoken.{referred, unreferred, not_inside}
 use Rattle.zones.proofs.zone.Zone.reply.Goals as goal
 
@@ -22,9 +22,9 @@ returns-else-is_under c =
 pub returns-in-Some : goal.returns-in-Some
 returns-in-Some c =
     let z = zone_of c.args.self.now in
-    referred z (labels c.args.name.now) c.args.kind.number c.args.kind.number z.sets refl refl (set_of c.in-Some.set.now) c.in-Some.ensures
+    referred z (labels c.args.name.now) c.args.kind.number (set_of c.in-Some.set.now) c.in-Some.ensures
 
 pub returns-in-None : goal.returns-in-None
 returns-in-None c =
     let z = zone_of c.args.self.now in
-    unreferred z (labels c.args.name.now) c.args.kind.number c.args.kind.number z.sets refl refl (speaker_of c.reply_among.result) c.in-None.ensures c.reply_among.ensures
+    unreferred z (labels c.args.name.now) c.args.kind.number (speaker_of c.reply_among.result) c.in-None.ensures c.reply_among.ensures
