@@ -3,7 +3,8 @@ use Rattle.std.proofs.Common.{◌≡◌, ℕ, ◌<◌, ◌≤◌, Bool, true, fa
 use mathlib.Core.List.{Memᴰ}
 use lib.ListN.{length-map}
 use Rattle.std.specs.Bool.{then_some}
-use Rattle.std.specs.Option.{option_map}
+use Rattle.std.specs.List.{ItemBy}
+use Rattle.std.specs.Option.{option_map, MatchOption}
 use Rattle.std.specs.Cmp.{ranks}
 use Rattle.std.specs.Ordering.{is_lt, is_le, ordering_reverse, ordering_then, MatchOrdering, nat_cmp}
 use Rattle.std.proofs.lemmas.Bool.{and_from, and_parts, cases_lt, cases_order, eq-eqb, eqb-true, lt-ltb, le-ltb}
@@ -189,3 +190,8 @@ module _ {X : Type 0} (f : X → Set) (xs : List X) (n : List (List ℕ)) where
     where
       any : Set
       any = record { name = []; kind = 0; ttl = 0; content = AliasOf [] }
+
+  -- of the element that the code got, or of none
+  pub under_by : sorted (map f xs) ≡ true → {R : Type 0} (now : R → X) (i : ℕ) (r : Option R) (b : Bool) (P : R → Type 0) → i ≡ place n 0 (map f xs) → ItemBy now xs i i r → MatchOption r (b ≡ false) P → ((x : R) → P x → b ≡ within n (f (now x)).name) → b ≡ any_under n (map f xs)
+  under_by o now i None b P p h k by = k ∙ under_past o i p h.3
+  under_by o now i (Some x) b P p h k by = under_read o i (now x) b p h.3.0 h.1 (by x k)

@@ -39,10 +39,8 @@ impl SortedSets {
     fn reply_at(&self, at: usize, name: &Name, kind: Kind) -> Reply<'_>
         ensures { speaker_of result ≡ undelegated (labels name.now) kind.number (set_at at (sets_of self.now)) }
     {
-        match self.sets.get(at) {
-            Some(set) => reply_of(set, name, kind),
-            None => Reply::NoName,
-        }
+        let set = self.sets.get(at);
+        set.map_or(Reply::NoName, |set| reply_of(set, name, kind))
     }
 
     // The two sets on both sides of the place of the name and kind say it: an alias stands alone at its name, and what is

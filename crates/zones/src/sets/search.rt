@@ -113,20 +113,16 @@ impl SortedSets {
     pub fn is_under(&self, name: &Name) -> bool
         ensures { result ≡ any_under (labels name.now) (sets_of self.now) }
     {
-        match self.sets.get(self.first_at(name)) {
-            Some(set) => set.name().is_within(name),
-            None => false,
-        }
+        let first = self.sets.get(self.first_at(name));
+        first.is_some_and(|set| set.name().is_within(name))
     }
 
     // Whether a set stands at a name.
     pub fn is_at(&self, name: &Name) -> bool
         ensures { result ≡ any_at (labels name.now) (sets_of self.now) }
     {
-        match self.sets.get(self.first_at(name)) {
-            Some(set) => *name == *set.name(),
-            None => false,
-        }
+        let first = self.sets.get(self.first_at(name));
+        first.is_some_and(|set| *name == *set.name())
     }
 
     // The highest delegation at a name or above it, and below the apex: the first that is met from the apex down.

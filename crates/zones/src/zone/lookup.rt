@@ -63,10 +63,8 @@ impl Zone {
     pub fn is_hidden(&self, set: &RecordSet) -> bool
         ensures { result ≡ is_hidden (zone_of self.now) (set_of set.now) }
     {
-        match self.sets.find_delegation(set.name()) {
-            Some(over) => !is_exactly(over, set.name(), set.kind()),
-            None => false,
-        }
+        let over = self.sets.find_delegation(set.name());
+        over.is_some_and(|over| !is_exactly(over, set.name(), set.kind()))
     }
 
     // The sets that are never told, in their order.

@@ -1,21 +1,13 @@
-use Rattle.std.proofs.Common.{◌<◌, ◌≤◌, length, get_or, vec_items, ap, ◌∙◌, subst}
+use Rattle.std.proofs.Common.{vec_items, subst, rules, tests}
+use Rattle.std.specs.List.{ItemBy}
 use Rattle.names.specs.Names.{labels}
-use Rattle.names.specs.Order.{within}
 use Rattle.records.specs.Sets.{set_of}
-use Rattle.zones.proofs.ByPlace.{under_read, under_past}
+use Rattle.zones.proofs.ByPlace.{under_by}
 use Rattle.zones.proofs.sets.SortedSets.is_under.Goals as goal
 
-pub returns-in-Some : goal.returns-in-Some
-returns-in-Some c =
+pub returns : goal.returns
+returns c =
     let s = c.args.self.now in
     let at = c.first_at.result in
-    let set = c.in-Some.set.now in
-    let l = subst (λ xs. at < length xs) c.deref.ensures.value c.in-Some.ensures.lookup.3.0 in
-    let e = c.in-Some.ensures.lookup.1 ∙ ap (λ xs. get_or xs at set) c.deref.ensures.value in
-    under_read set_of (vec_items s.sets) (labels c.args.name.now) s.ordered at set c.is_within.result c.first_at.ensures l e (c.is_within.ensures ∙ ap (within (labels c.args.name.now)) c.name.ensures)
-
-pub returns-in-None : goal.returns-in-None
-returns-in-None c =
-    let s = c.args.self.now in
-    let l = subst (λ xs. length xs ≤ c.first_at.result) c.deref.ensures.value c.in-None.ensures.lookup.3 in
-    under_past set_of (vec_items s.sets) (labels c.args.name.now) s.ordered c.first_at.result c.first_at.ensures l
+    under_by set_of (vec_items s.sets) (labels c.args.name.now) s.ordered (λ x. x.now) at c.get-first.result c.is_some_and.result _ c.first_at.ensures
+    (subst (λ xs. ItemBy (λ x. x.now) xs at at c.get-first.result) c.deref.ensures.value c.get-first.ensures.lookup) c.is_some_and.ensures (λ x k. search (rules, tests))
