@@ -1,5 +1,5 @@
 -- Searches by place find what a look through all sets finds.
-use Rattle.std.proofs.Common.{◌≡◌, ℕ, ◌<◌, ◌≤◌, Bool, true, false, cond, eqb, ltb, List, [], map, length, get_or, drop, Some, None, Option, Ordering, Less, Equal, Greater, sym, refl, ap, ◌∙◌, subst, ⊎_elim, true≢false, arith}
+use Rattle.std.proofs.Common.{◌≡◌, ℕ, ◌<◌, ◌≤◌, Bool, true, false, cond, eqb, List, [], map, length, get_or, Some, None, Option, Ordering, Less, Equal, Greater, sym, refl, ap, ◌∙◌, subst, ⊎_elim, true≢false, arith}
 use mathlib.Core.List.{Memᴰ}
 use lib.ListN.{length-map}
 use Rattle.std.specs.Bool.{then_some}
@@ -7,9 +7,9 @@ use Rattle.std.specs.List.{ItemBy}
 use Rattle.std.specs.Option.{option_map, MatchOption}
 use Rattle.std.specs.Cmp.{ranks}
 use Rattle.std.specs.Ordering.{is_lt, is_le, ordering_reverse, ordering_then, MatchOrdering, nat_cmp}
-use Rattle.std.proofs.lemmas.Bool.{and_from, and_parts, cases_lt, cases_order, eq-eqb, eqb-true, lt-ltb, le-ltb}
+use Rattle.std.proofs.lemmas.Bool.{and_from, and_parts, cases_lt, cases_order, eq-eqb, eqb-true}
 use Rattle.names.specs.Order.{order, within, NotAfter}
-use Rattle.names.proofs.Order.{order_flip, order_below, order_itself, order_laws}
+use Rattle.names.proofs.Order.{order_flip, order_itself, order_laws}
 use Rattle.meaning.specs.Model.{AliasOf, Set}
 use Rattle.meaning.specs.Says.{same, is_exactly, find, any_under}
 use Rattle.zones.specs.Sorted.{is_before, sorted, place}

@@ -1,5 +1,5 @@
 -- The topmost delegations of a zone, by their names in order.
-use Rattle.std.specs.Prelude.{ℕ, Bool, true, false, cond, not, ◌&&◌, ◌||◌, List, [], ◌∷◌, drop, is_some, Some, None, Option}
+use Rattle.std.specs.Prelude.{ℕ, Bool, true, cond, not, ◌&&◌, ◌||◌, List, [], ◌∷◌, drop, is_some, Some, None, Option}
 use Rattle.std.specs.Ordering.{is_lt, is_le}
 use Rattle.names.specs.Order.{order, within}
 use Rattle.meaning.specs.Model.{delegates, Set}

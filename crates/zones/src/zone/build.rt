@@ -85,7 +85,8 @@ impl Zone {
         ensures { option_map labels result ≡ new_cut (set_of set.now) (cuts_in self.now.cuts) }
     {
         let name = set.name();
-        (set.kind().is_delegation() && self.cuts.find(name).is_none()).then_some(*name)
+        let is_topmost = set.kind().is_delegation() && self.cuts.find(name).is_none();
+        is_topmost.then(|| *name)
     }
 
     // One set more; a refusal leaves the zone as it was.

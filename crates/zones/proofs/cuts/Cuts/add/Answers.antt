@@ -1,4 +1,4 @@
-use Rattle.std.proofs.Common.{◌≡◌, ◌+◌, true, map, length, is_ok, cond, vec_items, vec_len, vec_capacity, sym, ap, ◌∙◌, subst, rules, of_calls, refl, arith}
+use Rattle.std.proofs.Common.{◌≡◌, ◌+◌, true, map, length, is_ok, vec_items, sym, ap, ◌∙◌, subst, rules, of_calls, refl, arith}
 use Rattle.std.specs.List.{insert, remove_range}
 use Rattle.std.proofs.lemmas.Bool.{cond-true}
 use Rattle.std.proofs.lemmas.Fn.{always_returns_same}

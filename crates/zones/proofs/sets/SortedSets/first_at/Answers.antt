@@ -1,4 +1,4 @@
-use Rattle.std.proofs.Common.{◌≡◌, true, map, length, sym, ap, ◌∙◌, subst, vec_items, rules, of_calls}
+use Rattle.std.proofs.Common.{◌≡◌, true, map, sym, ap, ◌∙◌, subst, vec_items, rules, of_calls}
 use Rattle.std.proofs.lemmas.Fn.{always_returns_same}
 use Rattle.names.specs.Names.{labels}
 use Rattle.records.specs.Sets.{set_of}

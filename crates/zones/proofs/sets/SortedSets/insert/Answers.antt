@@ -1,4 +1,4 @@
-use Rattle.std.proofs.Common.{true, map, length, is_ok, vec_items, ap, ◌∙◌, arith}
+use Rattle.std.proofs.Common.{map, length, is_ok, vec_items, ap, ◌∙◌, arith}
 use Rattle.names.specs.Fronts.{front_below}
 use Rattle.names.specs.Names.{labels}
 use Rattle.records.specs.Sets.{set_of}

@@ -1,10 +1,8 @@
 use Rattle.std.proofs.Common.{◌≡◌, ◌+◌, ◌-◌, ◌<◌, ◌⊎◌, inl, inr, get_or, arith, length, eqb, ltb, sym, ap, ◌∙◌, subst, vec_items, rules, of_calls}
 use Rattle.std.proofs.lemmas.Fn.{always_returns_same}
 use Rattle.std.proofs.lemmas.List.Sorted.{IsPartitionedBy-ltb}
-use Rattle.std.specs.List.Sorted.{IsPartitionPoint}
 use Rattle.names.specs.Fronts.{front_below}
 use Rattle.names.specs.Names.{labels}
-use Rattle.records.specs.Sets.{set_of}
 use Rattle.zones.specs.Sorted.{Narrowed}
 use Rattle.zones.specs.Zones.{sets_of}
 use Rattle.zones.proofs.Narrow.{fronts_rise, alike_part, narrowed, narrowed_one}

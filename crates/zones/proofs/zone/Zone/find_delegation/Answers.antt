@@ -1,4 +1,4 @@
-use Rattle.std.proofs.Common.{◌≡◌, Some, None, ap, ◌∙◌}
+use Rattle.std.proofs.Common.{◌∙◌}
 use Rattle.names.specs.Names.{labels}
 use Rattle.zones.specs.Zones.{sets_of, cuts_in}
 use Rattle.zones.proofs.Topmost.{all_belong_lem, right_so, none_speaks, cut_speaks}

@@ -1,10 +1,9 @@
-use Rattle.std.proofs.Common.{map, length, sym, ap, ◌∙◌, arith}
+use Rattle.std.proofs.Common.{length, sym, ap, ◌∙◌, arith}
 use Rattle.meaning.specs.Transfer.{all_transferred}
 use Rattle.names.specs.Names.{labels}
 use Rattle.zones.specs.Sorted.{each}
 use Rattle.zones.specs.Cuts.{apart, cuts_of}
 use Rattle.zones.specs.Valid.{valid}
-use Rattle.zones.specs.Zones.{sets_of, cuts_in}
 use Rattle.zones.proofs.zone.Zone.new.Goals as goal
 
 pub invariant_of-result : goal.invariant_of-result
