@@ -3,7 +3,7 @@
 use names::{Fault, Name};
 use records::{Address, Data, Delegation, Kind, RecordSet, Serial, Ttl};
 use std::alloc::Global;
-use zones::Zone;
+use zones::{Times, Zone};
 
 // How many sets of each class a zone has.
 #[derive(Clone, Copy)]
@@ -105,7 +105,12 @@ fn put_all(heap: Global, zone: &mut Zone, plan: &Plan) -> Result<(), Fault> {
 
 pub fn zone(heap: Global, plan: &Plan) -> Result<Zone, Fault> {
     let serial = Serial::try_from(1)?;
-    let mut zone = Zone::new(heap, apex()?, serial, Ttl(60), Ttl(600), Ttl(86400));
+    let times = Times {
+        negative: Ttl(60),
+        refresh: Ttl(600),
+        expire: Ttl(86400),
+    };
+    let mut zone = Zone::new(heap, apex()?, serial, times);
     put_all(heap, &mut zone, plan)?;
     Ok(zone)
 }

@@ -2,12 +2,17 @@
 use names::{Fault, Name};
 use records::{Address, Data, Delegation, Kind, RecordSet, Serial, Ttl};
 use std::alloc::Global;
-use zones::Zone;
+use zones::{Times, Zone};
 
 fn zone(heap: Global, apex: &[u8]) -> Result<Zone, Fault> {
     let apex = Name::read_whole(apex)?;
     let serial = Serial::try_from(1)?;
-    Ok(Zone::new(heap, apex, serial, Ttl(60), Ttl(600), Ttl(86400)))
+    let times = Times {
+        negative: Ttl(60),
+        refresh: Ttl(600),
+        expire: Ttl(86400),
+    };
+    Ok(Zone::new(heap, apex, serial, times))
 }
 
 fn put(zone: &mut Zone, name: &[u8], kind: u8, ttl: u32, content: Data) -> Result<(), Fault> {

@@ -9,11 +9,11 @@ use Rattle.names.specs.Fronts.{front_below}
 use Rattle.names.specs.Order.{within}
 use Rattle.meaning.specs.Model.{delegates, Set}
 use Rattle.meaning.specs.Says.{same, is_exactly, find}
-use Rattle.zones.specs.Sorted.{fronts_of, sorted, place}
+use Rattle.zones.specs.Sorted.{fronts_of, place}
 use Rattle.zones.specs.Valid.{clashes, valid, insert_set, added}
 use Rattle.meaning.proofs.Finding.{Found, some, none, finds}
 use Rattle.meaning.specs.Transfer.{transferred, all_transferred}
-use Rattle.zones.proofs.Insert.{New, insert_place, insert_sorted, insert_valid, insert_length, insert_carried}
+use Rattle.zones.proofs.Insert.{New, insert_place, insert_valid, insert_length, insert_carried}
 use Rattle.meaning.proofs.Rules.{so_same}
 
 pub record May (apex : List (List ℕ)) (ss : List Set) (s : Set) : Type 0 where
@@ -41,7 +41,7 @@ may apex ss s xs h = go (within apex s.name) refl (is_some (find (is_exactly s.n
     go true p false q false r false t true u = absurd (no_ok TooMuch (sym (λ i. cond (not (p i)) (Err Misplaced) (cond (q i) (Err Misplaced) (cond (r i) (Err Conflict) (cond (t i) (Err Conflict) (cond (u i) (Err TooMuch) (Ok (insert_set s ss))))))) ∙ h))
     go true p false q false r false t false u = record { inside = p; fresh = q; below = r; alone = t; room = u }
 
-new_so : (ss : List Set) (s : Set) → is_some (find (is_exactly s.name s.kind) ss) ≡ false → New s ss
+pub new_so : (ss : List Set) (s : Set) → is_some (find (is_exactly s.name s.kind) ss) ≡ false → New s ss
 new_so ss s h t m e f = go (find (is_exactly s.name s.kind) ss) (finds (is_exactly s.name s.kind) ss) h
   where
     go : (x : Option Set) → Found (is_exactly s.name s.kind) ss x → is_some x ≡ false → ⊥
@@ -57,34 +57,31 @@ module _ {X : Type 0} (f : X → Set) (xs : List X) (x : X) where
   pub put_in : (i : ℕ) → i ≡ place (f x).name (f x).kind (map f xs) → map f (insert xs i x) ≡ insert_set (f x) (map f xs)
   put_in i e = map_inserted f xs x i ∙ ap (λ j. insert (map f xs) j (f x)) e ∙ sym (insert_place (f x) (map f xs))
 
-  -- whether the memory sufficed or not, the sets are sorted and valid
-  pub still_sorted : (apex : List (List ℕ)) (b : Bool) (ys : List X) (i : ℕ) → sorted (map f xs) ≡ true → May apex (map f xs) (f x) → i ≡ place (f x).name (f x).kind (map f xs) → ys ≡ cond b (insert xs i x) xs → sorted (map f ys) ≡ true
-  still_sorted apex true ys i o m e h = ap (λ zs. sorted (map f zs)) h ∙ ap sorted (put_in i e) ∙ insert_sorted (f x) (map f xs) o (new_so (map f xs) (f x) m.fresh)
-  still_sorted apex false ys i o m e h = ap (λ zs. sorted (map f zs)) h ∙ o
-
-  pub still_valid : (apex : List (List ℕ)) (b : Bool) (ys : List X) (i : ℕ) → valid apex (map f xs) ≡ true → May apex (map f xs) (f x) → i ≡ place (f x).name (f x).kind (map f xs) → ys ≡ cond b (insert xs i x) xs → valid apex (map f ys) ≡ true
-  still_valid apex true ys i v m e h =
-      let l = leb-false 4096 (length (map f xs)) m.room in
-      ap (λ zs. valid apex (map f zs)) h ∙ ap (valid apex) (put_in i e)
-      ∙ insert_valid apex (f x) (map f xs) v (and_from (within apex (f x).name) (not (delegates (f x).kind && same (f x).name apex)) m.inside (not_from_false (delegates (f x).kind && same (f x).name apex) m.below)) m.alone l
-  still_valid apex false ys i v m e h = ap (λ zs. valid apex (map f zs)) h ∙ v
-
-  -- and their bytes are counted: n are those of the new one
-  pub still_carried : (i sum n : ℕ) (ys : List X) → sum ≡ length (all_transferred (map f xs)) → n ≡ length (transferred (f x)) → i ≡ place (f x).name (f x).kind (map f xs) → ys ≡ insert xs i x → sum + n ≡ length (all_transferred (map f ys))
-  still_carried i sum n ys s t e h =
-      let a = ap (λ zs. length (all_transferred zs)) (ap (map f) h ∙ put_in i e) in
-      let b = insert_carried (f x) (map f xs) in
-      omega arith
-
-  pub still_bounded : (i sum n : ℕ) (ys : List X) → sum ≤ 879 * length (map f xs) → n ≤ 879 → i ≡ place (f x).name (f x).kind (map f xs) → ys ≡ insert xs i x → sum + n ≤ 879 * length (map f ys)
-  still_bounded i sum n ys s t e h =
-      let a = ap length (ap (map f) h ∙ put_in i e) in
-      let b = insert_length (f x) (map f xs) in
-      omega arith
-
-  -- and each has its front: g is that of the new one, which there was room for
+  -- each has its front: g is that of the new one, which there was room for
   pub still_marked : (d i g : ℕ) (b : Bool) (fs hs gs : List ℕ) (ys : List X) → fs ≡ fronts_of d (map f xs) → g ≡ front_below d (f x).name → ys ≡ insert xs i x → hs ≡ fs → b ≡ true → gs ≡ cond b (insert hs i g) hs → gs ≡ fronts_of d (map f ys)
   still_marked d i g b fs hs gs ys m e h n o k =
       k ∙ cond-true b (insert hs i g) hs o ∙ (λ j. insert ((n ∙ m) j) i (e j))
       ∙ sym (map_inserted (λ (s : Set). front_below d s.name) (map f xs) (f x) i)
       ∙ ap (fronts_of d) (sym (ap (map f) h ∙ map_inserted f xs x i))
+
+-- ---- the zone with it
+
+module _ (apex : List (List ℕ)) (ss : List Set) (s : Set) (m : May apex ss s) (ts : List Set) (is : ts ≡ insert_set s ss) where
+  pub still_valid : valid apex ss ≡ true → valid apex ts ≡ true
+  still_valid v =
+      let l = leb-false 4096 (length ss) m.room in
+      ap (valid apex) is
+      ∙ insert_valid apex s ss v (and_from (within apex s.name) (not (delegates s.kind && same s.name apex)) m.inside (not_from_false (delegates s.kind && same s.name apex) m.below)) m.alone l
+
+  -- its bytes are counted: n are those of the new one
+  pub still_carried : (sum n : ℕ) → sum ≡ length (all_transferred ss) → n ≡ length (transferred s) → sum + n ≡ length (all_transferred ts)
+  still_carried sum n e t =
+      let a = ap (λ zs. length (all_transferred zs)) is in
+      let b = insert_carried s ss in
+      omega arith
+
+  pub still_bounded : (sum n : ℕ) → sum ≤ 879 * length ss → n ≤ 879 → sum + n ≤ 879 * length ts
+  still_bounded sum n e t =
+      let a = ap length is in
+      let b = insert_length s ss in
+      omega arith

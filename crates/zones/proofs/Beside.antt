@@ -4,6 +4,8 @@ use mathlib.Core.List.Memᴰ
 use mathlib.Core.List.{Memᴰ}
 use lib.ListN.{length-map}
 use Rattle.std.proofs.lemmas.Bool.{and_from, and_parts, or_left, or_right, or_parts, not-true, cases_lt, cases_Bool, eq-eqb, eqb-true}
+use Rattle.std.specs.List.{ItemBy}
+use Rattle.std.specs.Option.{MatchOption}
 use Rattle.names.specs.Order.{order, within, NotAfter}
 use Rattle.names.proofs.Order.{order_laws}
 use Rattle.names.proofs.Within.{within_itself, within_level}
@@ -14,7 +16,9 @@ use Rattle.meaning.proofs.Finding.{Nothing, Found, some, none, finds, Below, one
 use Rattle.meaning.proofs.Rules.{same_so, so_same}
 use Rattle.zones.specs.Sorted.{sorted, place, set_at}
 use Rattle.zones.specs.Valid.{clash, clashes, no_clash}
-use Rattle.zones.specs.Zones.{tells_data, tells_nothing}
+use Rattle.zones.specs.declared.reply.Reply.{Reply}
+use Rattle.zones.specs.declared.reply.Reply.TheVariants as rust
+use Rattle.zones.specs.Zones.{speaker_of, tells_data, tells_nothing}
 use Rattle.zones.proofs.Places.{mem_at, index_of, place_within, before_place, at_place, read_at}
 use Rattle.zones.proofs.ByPlace.{distinct, not_itself, exact_absent, not_less, up_to, names_rise}
 
@@ -298,6 +302,10 @@ nothing_there n k i ss l = ap (undelegated n k) (sym (past_index ss i l))
 
 pub set_there : {X : Type 0} (f : X → Set) (xs : List X) (i : ℕ) (x : X) → i < length xs → x ≡ get_or xs i x → f x ∷ [] ≡ set_at i (map f xs)
 set_there f xs i x l e = let m = length-map xs f in sym (at_index (map f xs) i (f x) (omega arith) ∙ ap (λ s. s ∷ []) (read_at f xs i x l e))
+
+pub there_by : {R X : Type 0} (now : R → X) (f : X → Set) (xs : List X) (n : List (List ℕ)) (k i : ℕ) (r : Option R) (b : Reply) (P : R → Type 0) → ItemBy now xs i i r → MatchOption r (b ≡ rust.NoName) P → ((x : R) → P x → speaker_of b ≡ undelegated n k (f (now x) ∷ [])) → speaker_of b ≡ undelegated n k (set_at i (map f xs))
+there_by now f xs n k i None b P h e by = let m = length-map xs f in let l = h.3 in ap speaker_of e ∙ nothing_there n k i (map f xs) (omega arith)
+there_by now f xs n k i (Some x) b P h e by = by x e ∙ ap (undelegated n k) (set_there f xs i (now x) h.3.0 h.1)
 
 module _ (ss : List Set) (o : sorted ss ≡ true) (c : no_clash ss ≡ true) (n : List (List ℕ)) (k i : ℕ) (at : i ≡ place n k ss) where
   any : Set

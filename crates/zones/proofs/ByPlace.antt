@@ -1,12 +1,15 @@
 -- Searches by place find what a look through all sets finds.
-use Rattle.std.proofs.Common.{◌≡◌, ℕ, ◌<◌, ◌≤◌, Bool, true, false, eqb, ltb, List, [], map, length, get_or, drop, Some, None, Option, Ordering, Less, Equal, Greater, sym, refl, ap, ◌∙◌, subst, ⊎_elim, true≢false, arith}
+use Rattle.std.proofs.Common.{◌≡◌, ℕ, ◌<◌, ◌≤◌, Bool, true, false, cond, eqb, List, [], map, length, get_or, Some, None, Option, Ordering, Less, Equal, Greater, sym, refl, ap, ◌∙◌, subst, ⊎_elim, true≢false, arith}
 use mathlib.Core.List.{Memᴰ}
 use lib.ListN.{length-map}
+use Rattle.std.specs.Bool.{then_some}
+use Rattle.std.specs.List.{ItemBy}
+use Rattle.std.specs.Option.{option_map, MatchOption}
 use Rattle.std.specs.Cmp.{ranks}
 use Rattle.std.specs.Ordering.{is_lt, is_le, ordering_reverse, ordering_then, MatchOrdering, nat_cmp}
-use Rattle.std.proofs.lemmas.Bool.{and_from, and_parts, cases_lt, cases_order, eq-eqb, eqb-true, lt-ltb, le-ltb}
+use Rattle.std.proofs.lemmas.Bool.{and_from, and_parts, cases_lt, cases_order, eq-eqb, eqb-true}
 use Rattle.names.specs.Order.{order, within, NotAfter}
-use Rattle.names.proofs.Order.{order_flip, order_below, order_itself, order_laws}
+use Rattle.names.proofs.Order.{order_flip, order_itself, order_laws}
 use Rattle.meaning.specs.Model.{AliasOf, Set}
 use Rattle.meaning.specs.Says.{same, is_exactly, find, any_under}
 use Rattle.zones.specs.Sorted.{is_before, sorted, place}
@@ -85,7 +88,7 @@ not_less n k s Less e h = absurd (true≢false h)
 not_less n k s Equal e h = ap is_le (order_flip n s.name ∙ ap ordering_reverse e)
 not_less n k s Greater e h = ap is_le (order_flip n s.name ∙ ap ordering_reverse e)
 
-least_kind : (k : ℕ) (r : Ordering) → MatchOrdering r (k < 0) (k ≡ 0) (0 < k) → is_lt r ≡ false
+pub least_kind : (k : ℕ) (r : Ordering) → MatchOrdering r (k < 0) (k ≡ 0) (0 < k) → is_lt r ≡ false
 least_kind k Less h = absurd (omega arith)
 least_kind k Equal h = refl
 least_kind k Greater h = refl
@@ -143,17 +146,10 @@ module _ (ss : List Set) (o : sorted ss ≡ true) (n : List (List ℕ)) where
 
 -- ---- the code's tests and reads
 
-rank_less : (x k : ℕ) (r : Ordering) → MatchOrdering r (x < k) (x ≡ k) (k < x) → ltb x k ≡ is_lt r
-rank_less x k Less h = lt-ltb x k h
-rank_less x k Equal h = le-ltb x k (omega arith)
-rank_less x k Greater h = le-ltb x k (omega arith)
-
-pub kind_less : (x k : ℕ) → ltb x k ≡ is_lt (nat_cmp x k)
-kind_less x k = rank_less x k (nat_cmp x k) (ranks x k)
-
--- the labels below the apex decide
-pub before_found : (apex n m : List (List ℕ)) (k d : ℕ) (s : Set) (r : Ordering) → within apex s.name ≡ true → within apex n ≡ true → d ≡ length apex → m ≡ s.name → r ≡ order (drop d m) (drop d n) → is_lt (ordering_then r (nat_cmp s.kind k)) ≡ is_before n k s
-before_found apex n m k d s r v w e f h = ap (λ x. is_lt (ordering_then x (nat_cmp s.kind k))) (h ∙ (λ i. order (drop (e i) (f i)) (drop (e i) n)) ∙ order_below apex s.name n v w)
+-- what is shown where a test passes
+pub shown : {R A : Type 0} (g : R → A) (b : Bool) (r : R) → option_map g (then_some b r) ≡ cond b (Some (g r)) None
+shown g true r = refl
+shown g false r = refl
 
 module _ {X : Type 0} (f : X → Set) (xs : List X) (n : List (List ℕ)) (k : ℕ) where
   -- the set at the place is the one, or none is
@@ -168,6 +164,10 @@ module _ {X : Type 0} (f : X → Set) (xs : List X) (n : List (List ℕ)) (k : �
   exact_other o i x p l e h =
       let here : get_or (map f xs) (place n k (map f xs)) (f x) ≡ f x = ap (λ j. get_or (map f xs) j (f x)) (sym p) ∙ read_at f xs i x l e in
       exact_absent (map f xs) o n k (f x) (λ _ a b. true≢false (sym (and_from (same (f x).name n) (eqb (f x).kind k) (so_same (f x).name n (sym (ap (λ (s : Set). s.name) here) ∙ a)) (eq-eqb (f x).kind k (sym (ap (λ (s : Set). s.kind) here) ∙ b))) ∙ sym h))
+
+  pub exact_by : sorted (map f xs) ≡ true → (i : ℕ) (x : X) (b : Bool) → i ≡ place n k (map f xs) → i < length xs → x ≡ get_or xs i x → b ≡ is_exactly n k (f x) → cond b (Some (f x)) None ≡ find (is_exactly n k) (map f xs)
+  exact_by o i x true p l e h = exact_read o i x p l e h
+  exact_by o i x false p l e h = exact_other o i x p l e h
 
   pub exact_past : sorted (map f xs) ≡ true → (i : ℕ) → i ≡ place n k (map f xs) → length xs ≤ i → None ≡ find (is_exactly n k) (map f xs)
   exact_past o i p l = let m = length-map xs f in exact_absent (map f xs) o n k any (λ q a b. let r = q in omega arith)
@@ -190,3 +190,8 @@ module _ {X : Type 0} (f : X → Set) (xs : List X) (n : List (List ℕ)) where
     where
       any : Set
       any = record { name = []; kind = 0; ttl = 0; content = AliasOf [] }
+
+  -- of the element that the code got, or of none
+  pub under_by : sorted (map f xs) ≡ true → {R : Type 0} (now : R → X) (i : ℕ) (r : Option R) (b : Bool) (P : R → Type 0) → i ≡ place n 0 (map f xs) → ItemBy now xs i i r → MatchOption r (b ≡ false) P → ((x : R) → P x → b ≡ within n (f (now x)).name) → b ≡ any_under n (map f xs)
+  under_by o now i None b P p h k by = k ∙ under_past o i p h.3
+  under_by o now i (Some x) b P p h k by = under_read o i (now x) b p h.3.0 h.1 (by x k)

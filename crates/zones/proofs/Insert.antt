@@ -4,11 +4,11 @@ use Rattle.std.specs.Cmp.{ranks}
 use Rattle.std.specs.Ordering.{is_lt, ordering_reverse, ordering_then, MatchOrdering, nat_cmp}
 use Rattle.std.specs.List.{insert}
 use Rattle.std.proofs.lemmas.Bool.{cond-true, cond-false, and_parts, and_from, or_parts, or_from, not-true, not_from_false, le-leb}
-use Rattle.names.specs.Order.{order}
+use Rattle.names.specs.Order.{order, within}
 use Rattle.names.proofs.Order.{order_equal}
 use Rattle.meaning.specs.Model.{aliases, Set}
 use Rattle.meaning.specs.Says.{same}
-use Rattle.zones.specs.Sorted.{is_before, sorted, place}
+use Rattle.zones.specs.Sorted.{is_before, sorted, place, each, all_within}
 use Rattle.zones.specs.Valid.{clash, clashes, no_clash, belongs, all_belong, valid, insert_set}
 use Rattle.zones.proofs.Places.{sets_total, place_more, place_stop, place_nil}
 use Rattle.meaning.specs.Transfer.{transferred, all_transferred}
@@ -89,6 +89,17 @@ insert_sorted s (t ∷ ss) o n = go (is_before s.name s.kind t) refl (insert_sor
     go : (b : Bool) → is_before s.name s.kind t ≡ b → sorted (insert_set s ss) ≡ true → sorted (insert_set s (t ∷ ss)) ≡ true
     go true e ih = ap sorted (insert_on s t ss e) ∙ before_both t s ss e o ih
     go false e ih = ap sorted (insert_here s t ss e) ∙ sorted_cons s t ss (after s t e (n t (mathlib.Core.List.Memᴰ.head refl))) o
+
+-- ---- within the apex
+
+pub insert_within : (apex : List (List ℕ)) (s : Set) (ss : List Set) → within apex s.name ≡ true → all_within apex ss ≡ true → all_within apex (insert_set s ss) ≡ true
+unfolding insert_set each
+insert_within apex s [] h k = and_from (within apex s.name) true h refl
+insert_within apex s (t ∷ ss) h k = go (is_before s.name s.kind t) refl (insert_within apex s ss h (and_parts (within apex t.name) (all_within apex ss) k).1)
+  where
+    go : (b : Bool) → is_before s.name s.kind t ≡ b → all_within apex (insert_set s ss) ≡ true → all_within apex (insert_set s (t ∷ ss)) ≡ true
+    go true e ih = ap (all_within apex) (insert_on s t ss e) ∙ and_from (within apex t.name) (all_within apex (insert_set s ss)) (and_parts (within apex t.name) (all_within apex ss) k).0 ih
+    go false e ih = ap (all_within apex) (insert_here s t ss e) ∙ and_from (within apex s.name) (all_within apex (t ∷ ss)) h k
 
 -- ---- valid
 

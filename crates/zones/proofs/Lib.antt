@@ -4,7 +4,7 @@ mod ByPlace
 mod Down
 mod Beside
 mod Topmost
-mod Held
+mod Narrow
 mod Insert
 mod OneMore
 mod Spoken

@@ -1,10 +1,12 @@
 -- A set more: the topmost delegations stay right.
-use Rattle.std.proofs.Common.{◌≡◌, ℕ, zero, suc, ◌+◌, ◌<◌, ◌≤◌, Bool, true, false, cond, not, ◌&&◌, ◌||◌, eqb, ◌⊎◌, List, [], ◌∷◌, ◌++◌, map, length, get_or, take, drop, is_some, Some, None, Option, Ordering, Less, Equal, Greater, sym, refl, ap, ◌∙◌, subst, inl, inr, ⊎_elim, true≢false, add-one, arith}
+use Rattle.std.proofs.Common.{◌≡◌, ℕ, zero, suc, ◌+◌, ◌-◌, ◌<◌, ◌≤◌, Bool, true, false, cond, not, ◌&&◌, ◌||◌, eqb, ◌⊎◌, List, [], ◌∷◌, ◌++◌, map, length, get_or, take, drop, is_some, Some, None, Option, Ordering, Less, Equal, Greater, sym, refl, ap, ◌∙◌, subst, inl, inr, ⊎_elim, true≢false, length-append, length-drop, length-take, drop-drop, arith}
 use mathlib.Core.List.Memᴰ
 use mathlib.Core.List.{Memᴰ}
 use lib.ListN.{length-map}
-use Rattle.std.specs.List.{insert}
-use Rattle.std.proofs.lemmas.List.{map-append, take-map, drop-map, drop_more, drop_all}
+use Rattle.std.specs.List.{insert, remove_range, slice_range}
+use Rattle.std.specs.List.Sorted.{IsPartitionPoint, IsPartitionedBy}
+use Rattle.std.proofs.lemmas.List.{map-append, take-map, drop-map, get_or-map, get_or-take, get_or-drop, length-take-le}
+use Rattle.std.proofs.Math.Seq.{take-append_seam, drop-append_seam}
 use Rattle.std.specs.Ordering.{is_lt, is_le, ordering_reverse}
 use Rattle.std.proofs.lemmas.Bool.{and_from, or_left, or_right, cond-true, cond-false, not_from_false, cases_lt, cases_Bool, eq-eqb, eqb-true}
 use Rattle.names.specs.Order.{order, within, NotAfter}
@@ -17,10 +19,10 @@ use Rattle.meaning.proofs.Rules.{so_same}
 use Rattle.zones.specs.Sorted as sorts
 use Rattle.zones.specs.Sorted.{is_before, each}
 use Rattle.zones.specs.Valid.{insert_set}
-use Rattle.zones.specs.Cuts.{apart, cuts_of, cut_place, cut_over, next_below, beyond, with_cut, no_other, new_cut}
-use Rattle.zones.proofs.Places.{index_of, leading_more, leading_stop, leading_nil, read_at}
+use Rattle.zones.specs.Cuts.{apart, cuts_of, cut_place, cut_over, all_below, beyond, with_cut, no_other, new_cut}
+use Rattle.zones.proofs.Places.{index_of, leading_more, leading_stop, leading_nil, leading_within, right_half}
 use Rattle.zones.proofs.Insert.{insert_on, insert_here}
-use Rattle.zones.proofs.Topmost.{each_so, so_each, so_some, apart_tail, apart_parts, pair_apart, Covers, covers, uncovered, looks_over, right_so, so_right, at_cut, covered_so}
+use Rattle.zones.proofs.Topmost.{each_so, so_each, so_some, apart_tail, apart_parts, pair_apart, cuts_fall, less_le, Covers, covers, uncovered, looks_over, right_so, so_right, at_cut, covered_so}
 
 -- ---- members
 
@@ -180,6 +182,16 @@ module _ (n : List (List ℕ)) where
       go true e = ap apart (with_on c cs e) ∙ behind_apart c cs o (ahead c (order c n) refl e (h c (Memᴰ.head refl))) (h c (Memᴰ.head refl)) (λ d m. h d (Memᴰ.tail m))
       go false e = ap apart (with_here c cs e) ∙ beyond_apart (c ∷ cs) o (all_after c cs o e)
 
+pub new_apart : (n : List (List ℕ)) (cs : List (List (List ℕ))) → apart cs ≡ true → None ≡ cut_over n cs → apart (with_cut n cs) ≡ true
+new_apart n cs o fresh = with_apart n cs o (none_over (cut_over n cs) (looks_over n cs) fresh)
+  where
+    none_over : (x : Option (List (List ℕ))) → Covers n cs x → None ≡ x → (c : List (List ℕ)) → Memᴰ c cs → within c n ≡ false
+    none_over x (covers e m w) f c l = let z : ◌≡◌ {A = ℕ} 0 1 = cc in absurd (omega arith)
+    none_over x (uncovered never) f c l = ⊎_elim (λ w. absurd (never c l w)) (λ g. g) (cases_Bool (within c n))
+
+pub new_below : (apex n : List (List ℕ)) (cs : List (List (List ℕ))) → within apex n ≡ true → all_below apex cs ≡ true → all_below apex (with_cut n cs) ≡ true
+new_below apex n cs inside below = so_each (within apex) (with_cut n cs) (λ c m. ⊎_elim (λ e. ap (within apex) e ∙ inside) (λ l. each_so (within apex) cs below c l) (from_with n cs c m))
+
 -- ---- as the code makes it
 
 module _ (n : List (List ℕ)) where
@@ -187,19 +199,13 @@ module _ (n : List (List ℕ)) where
   abbrev pub placed : ℕ → List (List (List ℕ)) → List (List (List ℕ))
   placed i cs = take i cs ++ (n ∷ beyond n (drop i cs))
 
-  pub placed_less : (i : ℕ) (cs : List (List (List ℕ))) → next_below n (drop i cs) ≡ true → placed i (take i cs ++ drop (suc i) cs) ≡ placed i cs
-  placed_less zero [] h = absurd (true≢false (sym h))
-  placed_less zero (c ∷ cs) h = ap (λ x. n ∷ x) (sym (beyond_on n c cs h))
-  placed_less (suc i) [] h = absurd (true≢false (sym h))
-  placed_less (suc i) (c ∷ cs) h = ap (λ x. c ∷ x) (placed_less i cs h)
-
-  all_beyond : (cs : List (List (List ℕ))) → next_below n cs ≡ false → cs ≡ beyond n cs
+  -- those at the front that are below the name go
+  beyond_drop : (m : ℕ) (cs : List (List (List ℕ))) → m ≤ length cs → ((i : ℕ) → i < m → within n (get_or cs i []) ≡ true) → (m < length cs → within n (get_or cs m []) ≡ false) → drop m cs ≡ beyond n cs
   unfolding beyond
-  all_beyond [] h = refl
-  all_beyond (c ∷ cs) h = sym (beyond_stop n c cs h)
-
-  pub placed_all : (i : ℕ) (cs : List (List (List ℕ))) → next_below n (drop i cs) ≡ false → take i cs ++ (n ∷ drop i cs) ≡ placed i cs
-  placed_all i cs h = ap (λ x. take i cs ++ (n ∷ x)) (all_beyond (drop i cs) h)
+  beyond_drop zero [] l h k = refl
+  beyond_drop zero (c ∷ cs) l h k = sym (beyond_stop n c cs (k (omega arith)))
+  beyond_drop (suc m) [] l h k = absurd (omega arith)
+  beyond_drop (suc m) (c ∷ cs) l h k = beyond_drop m cs (omega arith) (λ i q. h (suc i) (omega arith)) (λ q. k (omega arith)) ∙ sym (beyond_on n c cs (h 0 (omega arith)))
 
   pub placed_with : (cs : List (List (List ℕ))) → placed (cut_place n cs) cs ≡ with_cut n cs
   unfolding with_cut beyond
@@ -210,29 +216,94 @@ module _ (n : List (List ℕ)) where
       go true e ih = ap (λ i. placed i (c ∷ cs)) (leading_more (λ c. is_le (order c n)) c cs e) ∙ ap (λ x. c ∷ x) ih ∙ sym (with_on n c cs e)
       go false e ih = ap (λ i. placed i (c ∷ cs)) (leading_stop (λ c. is_le (order c n)) c cs e) ∙ sym (with_here n c cs e)
 
-module _ {X : Type 0} (f : X → List (List ℕ)) (n : List (List ℕ)) (xs : List X) where
-  pub below_read : (i : ℕ) (x : X) → i < length xs → x ≡ get_or xs i x → within n (f x) ≡ next_below n (drop i (map f xs))
-  below_read i x l e =
+module _ {X : Type 0} (f : X → List (List ℕ)) (n : List (List ℕ)) (xs : List X) (o : apart (map f xs) ≡ true) (at : ℕ) (p : at ≡ cut_place n (map f xs)) where
+  -- those that are after the name
+  abbrev pub behind : List X
+  behind = slice_range xs at (length xs)
+
+  inside : at ≤ length xs
+  inside = let w = leading_within (λ c. is_le (order c n)) (map f xs) in let m = length-map xs f in omega arith
+
+  behind_len : length behind ≡ length xs - at
+  behind_len = let r = length-drop at xs in let l = inside in length-take-le (length xs - at) (drop at xs) (omega arith)
+
+  behind_at : (i : ℕ) (d : X) → at + i < length xs → get_or behind i d ≡ get_or xs (at + i) d
+  behind_at i d l = get_or-take (length xs - at) (drop at xs) i d (omega arith) ∙ get_or-drop at xs i d
+
+  all_behind : (i : ℕ) (d : X) → at ≤ i → i < length xs → NotAfter n (f (get_or xs i d))
+  all_behind i d l k =
       let m = length-map xs f in
-      ap (within n) (sym (read_at f xs i x l e)) ∙ sym (ap (next_below n) (drop_more (map f xs) i (f x) (omega arith)))
+      let e = get_or-map f xs i d (f d) k in
+      ⊎_elim
+      (λ (t : is_le (order (f (get_or xs i d)) n) ≡ true).
+      let r = right_half (λ c. is_le (order c n)) (map f xs) (cuts_fall n (map f xs) o) (f d) i (omega arith) (ap (λ c. is_le (order c n)) e ∙ t) in
+      absurd (omega arith))
+      (λ t. less_le (order n (f (get_or xs i d))) (after n (f (get_or xs i d)) (order (f (get_or xs i d)) n) refl t))
+      (cases_Bool (is_le (order (f (get_or xs i d)) n)))
 
-  pub below_past : (i : ℕ) → length xs ≤ i → false ≡ next_below n (drop i (map f xs))
-  below_past i l = let m = length-map xs f in sym (ap (next_below n) (drop_all i (map f xs) (omega arith)))
+  rises : (i j : ℕ) (d : X) → i ≤ j → j < length xs → NotAfter (f (get_or xs i d)) (f (get_or xs j d))
+  rises i j d le l =
+      let m = length-map xs f in
+      ⊎_elim
+      (λ (lt : i < j). (λ t. is_le (order (sym (get_or-map f xs i d (f d) (omega arith)) t) (sym (get_or-map f xs j d (f d) l) t))) ∙ (pair_apart (map f xs) o (f d) i j lt (omega arith)).0)
+      (λ (ge : j ≤ i). let e : i ≡ j = omega arith in subst (λ k. NotAfter (f (get_or xs i d)) (f (get_or xs k d))) e (order_laws.above_first (f (get_or xs i d)) (f (get_or xs i d)) (within_itself (f (get_or xs i d)))))
+      (cases_lt i j)
 
-  pub below_there : (i : ℕ) → true ≡ next_below n (drop i (map f xs)) → i < length xs
-  below_there i h = ⊎_elim (λ l. l) (λ l. absurd (true≢false (h ∙ sym (below_past i l)))) (cases_lt i (length xs))
+  -- of those the ones below the name come first
+  pub below_part : IsPartitionedBy (λ x. within n (f x)) behind
+  below_part i j d le l h =
+      let r = behind_len in
+      let k = inside in
+      ap (λ x. within n (f x)) (behind_at i d (omega arith))
+      ∙ order_laws.between n (f (get_or xs (at + i) d)) (f (get_or xs (at + j) d)) (all_behind (at + i) d (omega arith) (omega arith)) (rises (at + i) (at + j) d (omega arith) (omega arith))
+      (ap (λ x. within n (f x)) (sym (behind_at j d (omega arith))) ∙ h)
 
-  -- one is taken out
-  pub one_out : (i : ℕ) (ys : List X) → true ≡ next_below n (drop i (map f xs)) → ys ≡ take i xs ++ drop (i + 1) xs → placed n i (map f ys) ≡ placed n i (map f xs)
-  one_out i ys h e =
-      ap (λ zs. placed n i (map f zs)) e
-      ∙ ap (placed n i) (map-append f (take i xs) (drop (i + 1) xs) ∙ (λ j. sym (take-map f i xs) j ++ sym (drop-map f (i + 1) xs) j) ∙ ap (λ j. take i (map f xs) ++ drop j (map f xs)) (add-one i))
-      ∙ placed_less n i (map f xs) (sym h)
+  module _ (m : ℕ) (few : m ≤ length behind) (q : IsPartitionPoint (λ x. within n (f x) ≡ true) (λ x. within n (f x) ≡ false) behind m) where
+    some_at : 0 < length xs → X
+    some_at q = first xs q
+      where
+        first : (ys : List X) → 0 < length ys → X
+        first [] q = absurd (omega arith)
+        first (y ∷ ys) q = y
 
-  -- and the name put in
-  pub one_in : (i : ℕ) (x : X) (ys : List X) → false ≡ next_below n (drop i (map f xs)) → f x ≡ n → ys ≡ insert xs i x → map f ys ≡ placed n i (map f xs)
-  one_in i x ys h e g =
-      ap (map f) g ∙ map-append f (take i xs) (x ∷ drop i xs) ∙ (λ j. sym (take-map f i xs) j ++ (e j ∷ sym (drop-map f i xs) j)) ∙ placed_all n i (map f xs) (sym h)
+    read : (i : ℕ) (x : X) → at + i < length xs → within n (get_or (drop at (map f xs)) i []) ≡ within n (f (get_or behind i x))
+    read i x l =
+        ap (within n) (get_or-drop at (map f xs) i [] ∙ get_or-map f xs (at + i) x [] l) ∙ ap (λ y. within n (f y)) (sym (behind_at i x l))
+
+    gone : drop m (drop at (map f xs)) ≡ beyond n (drop at (map f xs))
+    gone =
+        let r = behind_len in
+        let k = inside in
+        let c = length-map xs f in
+        let d = length-drop at (map f xs) in
+        beyond_drop n m (drop at (map f xs)) (omega arith)
+        (λ i l. let x = some_at (omega arith) in read i x (omega arith) ∙ q.0 i x (omega arith) l)
+        (λ l. let x = some_at (omega arith) in read m x (omega arith) ∙ q.1 m x (omega arith) (omega arith))
+
+    front_part : take at (take at xs ++ drop (at + m) xs) ≡ take at xs
+    front_part = let k = inside in ap (λ i. take i (take at xs ++ drop (at + m) xs)) (sym (length-take-le at xs k)) ∙ take-append_seam (take at xs) (drop (at + m) xs)
+
+    back_part : drop at (take at xs ++ drop (at + m) xs) ≡ drop (at + m) xs
+    back_part = let k = inside in ap (λ i. drop i (take at xs ++ drop (at + m) xs)) (sym (length-take-le at xs k)) ∙ drop-append_seam (take at xs) (drop (at + m) xs)
+
+    -- they are taken out, and the name put in
+    pub put_over : (x : X) (zs ys : List X) → f x ≡ n → zs ≡ remove_range xs at (at + m) → ys ≡ insert zs at x → map f ys ≡ with_cut n (map f xs)
+    put_over x zs ys e g h =
+        ap (map f) (h ∙ ap (λ us. insert us at x) g ∙ (λ j. front_part j ++ (x ∷ back_part j)))
+        ∙ map-append f (take at xs) (x ∷ drop (at + m) xs)
+        ∙ (λ j. sym (take-map f at xs) j ++ (e j ∷ sym (drop-map f (at + m) xs) j))
+        ∙ ap (λ us. take at (map f xs) ++ (n ∷ us)) (sym (drop-drop m at (map f xs)) ∙ gone)
+        ∙ ap (λ i. placed n i (map f xs)) p
+        ∙ placed_with n (map f xs)
+
+-- there is no more then than there was
+pub fewer : {X : Type 0} (xs zs : List X) (i j : ℕ) → i ≤ j → zs ≡ remove_range xs i j → length zs ≤ length xs
+fewer xs zs i j l e =
+    let a = ap length e in
+    let b = length-append (take i xs) (drop j xs) in
+    let c = length-drop j xs in
+    let d = length-take i xs in
+    omega arith
 
 -- ---- still right
 
@@ -268,16 +339,12 @@ module _ (apex : List (List ℕ)) (ss : List Set) (cs : List (List (List ℕ))) 
   more_right inside d fresh =
       let r = right_so apex ss cs h in
       so_right apex (insert_set s ss) (with_cut s.name cs) (record {
-        ordered = with_apart s.name cs r.ordered (none_over (cut_over s.name cs) (looks_over s.name cs) fresh);
-        below = so_each (within apex) (with_cut s.name cs) (λ c m. ⊎_elim (λ e. ap (within apex) e ∙ inside) (λ l. each_so (within apex) cs r.below c l) (from_with s.name cs c m));
+        ordered = new_apart s.name cs r.ordered fresh;
+        below = new_below apex s.name cs inside r.below;
         there = so_each (λ c. is_some (find (is_exactly c 4) (insert_set s ss))) (with_cut s.name cs) (λ c m. ⊎_elim (λ e. there_from (insert_set s ss) c s (in_new s ss) (sym e) (eqb-true s.kind 4 d)) (λ l. kept_there c l) (from_with s.name cs c m));
         all = so_each (covered (with_cut s.name cs)) (insert_set s ss) (λ t m. ⊎_elim (λ e. ap (covered (with_cut s.name cs)) e ∙ itself) (λ l. still t (each_so (covered cs) ss r.all t l) (delegates t.kind) refl) (from_insert s ss t m));
       })
     where
-      none_over : (x : Option (List (List ℕ))) → Covers s.name cs x → None ≡ x → (c : List (List ℕ)) → Memᴰ c cs → within c s.name ≡ false
-      none_over x (covers e m w) f c l = let z : ◌≡◌ {A = ℕ} 0 1 = cc in absurd (omega arith)
-      none_over x (uncovered never) f c l = ⊎_elim (λ w. absurd (never c l w)) (λ g. g) (cases_Bool (within c s.name))
-
       itself : covered (with_cut s.name cs) s ≡ true
       itself = or_right (not (delegates s.kind)) (sorts.some (λ c. within c s.name) (with_cut s.name cs)) (so_some (λ c. within c s.name) (with_cut s.name cs) s.name (with_new s.name cs) (within_itself s.name))
 

@@ -1,42 +1,21 @@
--- Sets that pass a test, picked one by one.
-use Rattle.std.proofs.Common.{◌≡◌, ℕ, ◌+◌, ◌<◌, ◌≤◌, Bool, true, false, cond, List, [], ◌∷◌, ◌++◌, map, length, get_or, drop, sym, ap, ◌∙◌, append_assoc, append-nil}
-use mathlib.Core.List.{map-append}
-use Rattle.std.proofs.lemmas.List.{drop_more, drop_all}
+-- Sets that pass a test, as the code picks them.
+use Rattle.std.proofs.Common.{◌≡◌, Bool, true, false, cond, List, [], ◌∷◌, map, filter, refl, ap, ◌∙◌}
 use Rattle.meaning.specs.Model.{Set}
 use Rattle.meaning.specs.Laws.{keep}
 
-module _ {X Y : Type 0} (test : Set → Bool) (of-x : X → Set) (of-y : Y → Set) (xs : List X) where
-  -- those picked so far, and those of the rest that will be
-  abbrev pub Picked : List Y → ℕ → Type 0
-  Picked ys i = map of-y ys ++ keep test (map of-x (drop i xs)) ≡ keep test (map of-x xs)
-
-  pub none_picked : (ys : List Y) → ys ≡ [] → Picked ys 0
-  none_picked ys e = ap (λ zs. map of-y zs ++ keep test (map of-x xs)) e
-
-  -- the rest, by whether its first one passes
-  rest : (i : ℕ) (x : X) (b : Bool) → i < length xs → x ≡ get_or xs i x → test (of-x x) ≡ b → keep test (map of-x (drop i xs)) ≡ cond b (of-x x ∷ keep test (map of-x (drop (i + 1) xs))) (keep test (map of-x (drop (i + 1) xs)))
+module _ {X Y : Type 0} (test : Set → Bool) (f : X → Set) (g : Y → X) where
+  kept : (xs : List X) → map f (filter (λ x. test (f x)) xs) ≡ keep test (map f xs)
   unfolding keep
-  rest i x b l e t =
-      ap (λ zs. keep test (map of-x zs)) (drop_more xs i x l)
-      ∙ ap (λ y. keep test (of-x y ∷ map of-x (drop (i + 1) xs))) (sym e)
-      ∙ ap (λ c. cond c (of-x x ∷ keep test (map of-x (drop (i + 1) xs))) (keep test (map of-x (drop (i + 1) xs)))) t
+  kept [] = refl
+  kept (x ∷ xs) = go (test (f x)) (kept xs)
+    where
+      go : (b : Bool) → map f (filter (λ x. test (f x)) xs) ≡ keep test (map f xs) → map f (cond b (x ∷ filter (λ x. test (f x)) xs) (filter (λ x. test (f x)) xs)) ≡ cond b (f x ∷ keep test (map f xs)) (keep test (map f xs))
+      go true ih = ap (λ ss. f x ∷ ss) ih
+      go false ih = ih
 
-  pub passed_by : (ys zs : List Y) (i : ℕ) (x : X) → Picked ys i → zs ≡ ys → i < length xs → x ≡ get_or xs i x → test (of-x x) ≡ false → Picked zs (i + 1)
-  passed_by ys zs i x p e l x-is fails =
-      ap (λ us. map of-y us ++ keep test (map of-x (drop (i + 1) xs))) e
-      ∙ sym (ap (λ us. map of-y ys ++ us) (rest i x false l x-is fails))
-      ∙ p
+  both : (ys : List Y) → map (λ y. f (g y)) ys ≡ map f (map g ys)
+  both [] = refl
+  both (y ∷ ys) = ap (λ ss. f (g y) ∷ ss) (both ys)
 
-  pub one_picked : (ys zs : List Y) (i : ℕ) (x : X) (y : Y) → Picked ys i → zs ≡ ys ++ (y ∷ []) → of-y y ≡ of-x x → i < length xs → x ≡ get_or xs i x → test (of-x x) ≡ true → Picked zs (i + 1)
-  one_picked ys zs i x y p e same l x-is passes =
-      let more = keep test (map of-x (drop (i + 1) xs)) in
-      ap (λ us. map of-y us ++ more) e
-      ∙ ap (λ us. us ++ more) (map-append of-y ys (y ∷ []))
-      ∙ append_assoc (map of-y ys) (of-y y ∷ []) more
-      ∙ ap (λ s. map of-y ys ++ (s ∷ more)) same
-      ∙ sym (ap (λ us. map of-y ys ++ us) (rest i x true l x-is passes))
-      ∙ p
-
-  pub all_picked : (ys : List Y) (i : ℕ) → Picked ys i → length xs ≤ i → map of-y ys ≡ keep test (map of-x xs)
-  unfolding keep
-  all_picked ys i p l = sym (append-nil (map of-y ys)) ∙ sym (ap (λ zs. map of-y ys ++ keep test (map of-x zs)) (drop_all i xs l)) ∙ p
+  pub picked : (ys : List Y) (xs : List X) → map g ys ≡ filter (λ x. test (f x)) xs → map (λ y. f (g y)) ys ≡ keep test (map f xs)
+  picked ys xs e = both ys ∙ ap (map f) e ∙ kept xs

@@ -1,5 +1,5 @@
--- How many of the first elements of a list pass a test, found by halving; and where a name and kind stand among sorted sets.
-use Rattle.std.proofs.Common.{◌≡◌, ℕ, zero, suc, ◌+◌, ◌<◌, ◌≤◌, Bool, true, false, cond, ◌⊎◌, List, [], ◌∷◌, map, length, get_or, Ordering, Less, Equal, Greater, sym, refl, ap, ◌∙◌, subst, inl, inr, ⊎_elim, true≢false, arith}
+-- How many of the first elements of a list pass a test; and where a name and kind stand among sorted sets.
+use Rattle.std.proofs.Common.{◌≡◌, ℕ, zero, suc, ◌<◌, ◌≤◌, Bool, true, false, cond, ◌⊎◌, List, [], ◌∷◌, map, length, get_or, Ordering, Less, Equal, Greater, sym, refl, ap, ◌∙◌, subst, inl, inr, ⊎_elim, true≢false, arith}
 use mathlib.Core.List.Memᴰ
 use mathlib.Core.List.{Memᴰ}
 use lib.ListN.{length-map}
@@ -115,25 +115,20 @@ module _ {A : Type 0} (test : A → Bool) where
       earlier : (j : ℕ) → j ≤ i → test (get_or xs j d) ≡ true
       earlier j m = ⊎_elim (λ lt. o d j i lt l h) (λ ge. let e : i ≡ j = omega arith in subst (λ x. test (get_or xs x d) ≡ true) e h) (cases_lt j i)
 
+-- so many of the first pass a test: those before do, and the one there doesn't
+pub leading_is : {A : Type 0} (test : A → Bool) (xs : List A) (m : ℕ) (d : A) → m ≤ length xs → ((i : ℕ) → i < m → test (get_or xs i d) ≡ true) → (m < length xs → test (get_or xs m d) ≡ false) → m ≡ leading test xs
+leading_is test xs m d l before there =
+    let w = leading_within test xs in
+    ⊎_elim
+    (λ (lt : m < leading test xs). absurd (true≢false (sym (passes test xs d m lt) ∙ there (omega arith))))
+    (λ (ge : leading test xs ≤ m).
+    ⊎_elim (λ (lt : leading test xs < m). absurd (true≢false (sym (before (leading test xs) lt) ∙ fails test xs d (omega arith)))) (λ (le : m ≤ leading test xs). omega arith) (cases_lt (leading test xs) m))
+    (cases_lt m (leading test xs))
+
 -- an element that the code reads, in the list of what the elements stand for
 module _ {X A : Type 0} (f : X → A) (xs : List X) where
   pub read_at : (i : ℕ) (x : X) → i < length xs → x ≡ get_or xs i x → get_or (map f xs) i (f x) ≡ f x
   read_at i x l e = get_or-map f xs i x (f x) l ∙ ap f (sym e)
-
-  pub goes_left : (test : A → Bool) (i : ℕ) (x : X) (b : Bool) → i < length xs → x ≡ get_or xs i x → b ≡ false → b ≡ test (f x) → leading test (map f xs) ≤ i
-  goes_left test i x b l e fails h = left_half test (map f xs) (f x) i (ap test (read_at i x l e) ∙ sym h ∙ fails)
-
-  pub goes_right : (test : A → Bool) → Falls test (map f xs) → (i : ℕ) (x : X) (b : Bool) → i < length xs → x ≡ get_or xs i x → b ≡ true → b ≡ test (f x) → i + 1 ≤ leading test (map f xs)
-  goes_right test o i x b l e passes h =
-      let m = length-map xs f in
-      let r = right_half test (map f xs) o (f x) i (omega arith) (ap test (read_at i x l e) ∙ sym h ∙ passes) in
-      omega arith
-
--- the front that the code reads beside it
-pub front_at : {X : Type 0} (f : X → Set) (xs : List X) (fs : List ℕ) (d i : ℕ) (x : X) → fs ≡ fronts_of d (map f xs) → i < length xs → x ≡ get_or xs i x → get_or fs i 0 ≡ front_below d (f x).name
-front_at f xs fs d i x m l e =
-    let n = length-map xs f in
-    ap (λ gs. get_or gs i 0) m ∙ get_or-map (λ (s : Set). front_below d s.name) (map f xs) i (f x) 0 (omega arith) ∙ ap (λ (s : Set). front_below d s.name) (read_at f xs i x l e)
 
 pub fronts_many : {X : Type 0} (f : X → Set) (xs : List X) (fs : List ℕ) (d : ℕ) → fs ≡ fronts_of d (map f xs) → length fs ≡ length xs
 fronts_many f xs fs d m = ap length m ∙ length-map (map f xs) (λ (s : Set). front_below d s.name) ∙ length-map xs f
@@ -191,14 +186,3 @@ module _ (n : List (List ℕ)) (k : ℕ) where
   -- the set at an index that doesn't is at the place or behind it
   pub place_left : (ss : List Set) (d : Set) (i : ℕ) → is_before n k (get_or ss i d) ≡ false → place n k ss ≤ i
   place_left ss d i h = let e = place_leading n k ss in let w = left_half (is_before n k) ss d i h in omega arith
-
--- the two ways of a search that halves
-module _ {X : Type 0} (f : X → Set) (xs : List X) (n : List (List ℕ)) (k : ℕ) where
-  pub place_goes_left : (i : ℕ) (x : X) (b : Bool) → i < length xs → x ≡ get_or xs i x → b ≡ false → b ≡ is_before n k (f x) → place n k (map f xs) ≤ i
-  place_goes_left i x b l e fails h = let p = place_leading n k (map f xs) in let w = goes_left f xs (is_before n k) i x b l e fails h in omega arith
-
-  pub place_goes_right : sorted (map f xs) ≡ true → (i : ℕ) (x : X) (b : Bool) → i < length xs → x ≡ get_or xs i x → b ≡ true → b ≡ is_before n k (f x) → i + 1 ≤ place n k (map f xs)
-  place_goes_right o i x b l e passes h =
-      let p = place_leading n k (map f xs) in
-      let w = goes_right f xs (is_before n k) (sets_fall n k (map f xs) o) i x b l e passes h in
-      omega arith

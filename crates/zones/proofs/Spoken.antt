@@ -1,42 +1,36 @@
 -- What a zone says, by what its searches found.
-use Rattle.std.proofs.Common.{◌≡◌, ℕ, Bool, true, false, cond, not, ◌&&◌, ◌==◌, List, Some, None, Option, sym, refl, ap, ◌∙◌, true≢false}
+use Rattle.std.proofs.Common.{◌≡◌, ℕ, Bool, true, false, cond, not, ◌&&◌, ◌==◌, List, is_some, Some, None, Option, sym, refl, ap, ◌∙◌, true≢false}
+use Rattle.std.specs.Option.{option_map, IfSome}
 use Rattle.std.proofs.lemmas.Bool.{and_parts}
 use Rattle.names.specs.Order.{within}
 use Rattle.meaning.specs.Model.{delegates, Set, Zone}
-use Rattle.meaning.specs.Says.{Speaker, ByDelegation, BySet, ByAlias, NoData, NoName, same, is_over, is_exactly, is_alias_at, find, highest, any_under, or_else, speaker, says}
+use Rattle.meaning.specs.Says.{Speaker, ByDelegation, BySet, ByAlias, NoData, NoName, same, is_over, is_exactly, find, highest, any_under, or_else, speaker, says}
 use Rattle.meaning.specs.Speech.{undelegated}
 use Rattle.meaning.proofs.Finding.{Found, some, none, finds}
 use Rattle.meaning.proofs.Rules.{same_so}
+use Rattle.zones.specs.declared.reply.Reply.{Reply}
 use Rattle.zones.specs.Valid.{all_belong}
+use Rattle.zones.specs.Zones.{speaker_of}
 use Rattle.zones.proofs.Topmost.{belong_at, none_outside}
 
--- ss are the zone's sets, and j is the kind as it was asked for
-module _ (z : Zone) (q : List (List ℕ)) (k j : ℕ) (ss : List Set) (are : ss ≡ z.sets) (is : j ≡ k) where
+module _ (z : Zone) (q : List (List ℕ)) (k : ℕ) where
   -- the rules, by what each search found
   abbrev by_searches : Option Set → Option Set → Option Set → Bool → Speaker
   by_searches d e a u = or_else ByDelegation d (or_else BySet e (or_else ByAlias a (cond u NoData NoName)))
 
-  searched : by_searches (highest (is_over z.apex q) ss) (find (is_exactly q j) ss) (find (is_exactly q 5) ss) (any_under q ss) ≡ speaker z q k
+  searched : by_searches (highest (is_over z.apex q) z.sets) (find (is_exactly q k) z.sets) (find (is_exactly q 5) z.sets) (any_under q z.sets) ≡ speaker z q k
   unfolding speaker
-  searched = λ i. by_searches (highest (is_over z.apex q) (are i)) (find (is_exactly q (is i)) (are i)) (find (is_alias_at q) (are i)) (any_under q (are i))
+  searched = refl
 
-  pub referred : (s : Set) → Some s ≡ highest (is_over z.apex q) ss → ByDelegation s ≡ speaker z q k
-  referred s d = ap (λ x. by_searches x (find (is_exactly q j) ss) (find (is_exactly q 5) ss) (any_under q ss)) d ∙ searched
+  pub referred : (s : Set) → Some s ≡ highest (is_over z.apex q) z.sets → ByDelegation s ≡ speaker z q k
+  referred s d = ap (λ x. by_searches x (find (is_exactly q k) z.sets) (find (is_exactly q 5) z.sets) (any_under q z.sets)) d ∙ searched
 
-  pub had : (s : Set) → None ≡ highest (is_over z.apex q) ss → Some s ≡ find (is_exactly q j) ss → BySet s ≡ speaker z q k
-  had s d e = (λ i. by_searches (d i) (e i) (find (is_exactly q 5) ss) (any_under q ss)) ∙ searched
-
-  pub aliased : (s : Set) → None ≡ highest (is_over z.apex q) ss → None ≡ find (is_exactly q j) ss → Some s ≡ find (is_exactly q 5) ss → ByAlias s ≡ speaker z q k
-  aliased s d e a = (λ i. by_searches (d i) (e i) (a i) (any_under q ss)) ∙ searched
-
-  pub not_had : (b : Bool) → None ≡ highest (is_over z.apex q) ss → None ≡ find (is_exactly q j) ss → None ≡ find (is_exactly q 5) ss → b ≡ any_under q ss → cond b NoData NoName ≡ speaker z q k
+  pub not_had : (b : Bool) → None ≡ highest (is_over z.apex q) z.sets → None ≡ find (is_exactly q k) z.sets → None ≡ find (is_exactly q 5) z.sets → b ≡ any_under q z.sets → cond b NoData NoName ≡ speaker z q k
   not_had b d e a u = (λ i. by_searches (d i) (e i) (a i) (u i)) ∙ searched
 
   -- where no delegation is over the name, all the others together
-  pub unreferred : (r : Speaker) → None ≡ highest (is_over z.apex q) z.sets → r ≡ undelegated q j ss → r ≡ speaker z q k
-  unreferred r d h =
-      let e = d ∙ ap (highest (is_over z.apex q)) (sym are) in
-      h ∙ ap (λ x. or_else ByDelegation x (undelegated q j ss)) e ∙ searched
+  pub unreferred : (r : Speaker) → None ≡ highest (is_over z.apex q) z.sets → r ≡ undelegated q k z.sets → r ≡ speaker z q k
+  unreferred r d h = h ∙ ap (λ x. or_else ByDelegation x (undelegated q k z.sets)) d ∙ searched
 
 -- of a name outside the apex: b tells whether a set is below it
 module _ (z : Zone) (v : all_belong z.apex z.sets ≡ true) (q : List (List ℕ)) (o : within z.apex q ≡ false) (k : ℕ) where
@@ -50,16 +44,13 @@ module _ (z : Zone) (v : all_belong z.apex z.sets ≡ true) (q : List (List ℕ)
       go x (none h) = refl
 
   pub not_inside : (b : Bool) → b ≡ any_under q z.sets → cond b NoData NoName ≡ speaker z q k
-  not_inside b u = not_had z q k k z.sets refl refl b (none_outside z.apex z.sets v q o) (none_of k) (none_of 5) u
+  not_inside b u = not_had z q k b (none_outside z.apex z.sets v q o) (none_of k) (none_of 5) u
     where
       none_of : (j : ℕ) → None ≡ find (is_exactly q j) z.sets
       none_of j = none_at (is_exactly q j) (λ s p. same_so s.name q (and_parts (same s.name q) (s.kind == j) p).0)
 
--- within the apex or not
-pub said : (z : Zone) (q : List (List ℕ)) (k : ℕ) (a : Speaker) → true ≡ within z.apex q → a ≡ speaker z q k → Some a ≡ says z q k
+-- within the apex or not, by what is told
+pub said_then : (z : Zone) (q : List (List ℕ)) (k : ℕ) (r : Option Reply) (P : Reply → Type 0) → is_some r ≡ within z.apex q → IfSome r P → ((x : Reply) → P x → speaker_of x ≡ speaker z q k) → option_map speaker_of r ≡ says z q k
 unfolding says
-said z q k a h e = (λ i. cond (h i) (Some (e i)) None)
-
-pub unsaid : (z : Zone) (q : List (List ℕ)) (k : ℕ) → false ≡ within z.apex q → None ≡ says z q k
-unfolding says
-unsaid z q k h = ap (λ b. cond b (Some (speaker z q k)) None) h
+said_then z q k None P b h by = ap (λ c. cond c (Some (speaker z q k)) None) b
+said_then z q k (Some x) P b h by = ap Some (by x h) ∙ ap (λ c. cond c (Some (speaker z q k)) None) b

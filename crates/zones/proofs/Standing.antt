@@ -4,7 +4,8 @@ use mathlib.Core.List.Memᴰ
 use mathlib.Core.List.{Memᴰ}
 use lib.ListN.{length-map}
 use Rattle.std.specs.Cmp.Lexicographic.{pointwise}
-use Rattle.std.specs.Option.{option_map}
+use Rattle.std.specs.List.{ItemBy}
+use Rattle.std.specs.Option.{option_map, MatchOption}
 use Rattle.std.specs.Ordering.{is_le}
 use Rattle.std.proofs.lemmas.Bool.{cases_lt}
 use Rattle.std.proofs.lemmas.Bool.Decides.{same_from_decides}
@@ -78,6 +79,10 @@ module _ {X : Type 0} (f : X → Set) (xs : List X) (o : sorted (map f xs) ≡ t
       os c (none_stands h) t =
           let k = length-map xs f in
           absurd (h (get_or (map f xs) (place n 0 (map f xs)) (f x)) (mem_at (map f xs) (f x) (place n 0 (map f xs)) (omega arith)) (t ∙ ap (λ (y : Set). y.name) (sym here)))
+
+  pub at_by : {R : Type 0} (now : R → X) (i : ℕ) (r : Option R) (b : Bool) (P : R → Type 0) → i ≡ place n 0 (map f xs) → ItemBy now xs i i r → MatchOption r (b ≡ false) P → ((x : R) → P x → b ≡ pointwise (pointwise nat_eq) n (f (now x)).name) → b ≡ any_at n (map f xs)
+  at_by now i None b P p h k by = k ∙ at_past i p h.3
+  at_by now i (Some x) b P p h k by = at_read i (now x) b p h.3.0 h.1 (by x k)
 
 -- ---- clashes
 

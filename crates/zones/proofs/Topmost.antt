@@ -1,10 +1,12 @@
 -- The topmost delegations: the one over a name speaks of it, and one search finds it.
-use Rattle.std.proofs.Common.{◌≡◌, ℕ, zero, suc, ◌-◌, ◌<◌, ◌≤◌, Bool, true, false, cond, not, ◌&&◌, ◌||◌, eqb, ltb, List, [], ◌∷◌, map, length, get_or, drop, is_some, Some, None, Option, Ordering, Less, Equal, Greater, sym, refl, ap, ◌∙◌, subst, ⊎_elim, true≢false, arith}
+use Rattle.std.proofs.Common.{◌≡◌, ℕ, zero, suc, ◌-◌, ◌<◌, ◌≤◌, Bool, true, false, cond, not, ◌&&◌, ◌||◌, eqb, ltb, leb, List, [], ◌∷◌, map, length, get_or, take, drop, is_some, Some, None, Option, Ordering, Less, Equal, Greater, sym, refl, ap, ◌∙◌, subst, ⊎_elim, true≢false, arith}
 use mathlib.Core.List.Memᴰ
 use mathlib.Core.List.{Memᴰ}
 use lib.ListN.{length-map}
+use Rattle.std.specs.List.Sorted.{IsPartitionPoint, IsPartitionedBy}
 use Rattle.std.specs.Ordering.{is_lt, is_le}
-use Rattle.std.proofs.lemmas.Bool.{and_from, and_parts, or_left, or_right, or_cases, cond-true, cond-false, not-true, not_from_true, cases_lt, eq-eqb, eqb-true, lt-ltb}
+use Rattle.std.proofs.lemmas.List.{get_or-map, get_or-take, length-take-le}
+use Rattle.std.proofs.lemmas.Bool.{and_from, and_parts, or_left, or_right, or_cases, cond-true, cond-false, not-true, not_from_true, cases_lt, cases_Bool, eq-eqb, eqb-true, lt-ltb}
 use Rattle.names.specs.Order.{order, within, NotAfter}
 use Rattle.names.proofs.Order.{order_laws, order_below}
 use Rattle.names.proofs.Within.{within_laws, within_level}
@@ -15,9 +17,9 @@ use Rattle.meaning.proofs.Rules.{same_so, so_same}
 use Rattle.meaning.proofs.Saying.{no_longer}
 use Rattle.zones.specs.Sorted as sorts
 use Rattle.zones.specs.Sorted.{sorted, leading, each}
-use Rattle.zones.specs.Valid.{belongs, all_belong}
-use Rattle.zones.specs.Cuts.{apart, all_below, all_there, all_covered, cuts_of, cut_place, cut_over}
-use Rattle.zones.proofs.Places.{mem_at, index_of, Falls, passes, leading_within, right_half, read_at}
+use Rattle.zones.specs.Valid.{belongs, all_belong, no_clash, valid}
+use Rattle.zones.specs.Cuts.{apart, all_below, all_there, all_covered, cuts_of, cut_place, cut_over, is_up_to_below}
+use Rattle.zones.proofs.Places.{mem_at, index_of, Falls, leading_is, passes, leading_within, right_half, read_at}
 use Rattle.zones.proofs.ByPlace.{distinct}
 
 -- ---- all of a list, and some of it
@@ -199,6 +201,68 @@ module _ {X : Type 0} (f : X → List (List ℕ)) (xs : List X) (o : apart (map 
       go true h = ap Some (sym here) ∙ cut_last n (map f xs) o (f x) (omega arith) (ap (λ c. within c n) here ∙ sym h)
       go false h = cut_other n (map f xs) o (f x) (ap (λ c. within c n) here ∙ sym h)
 
+-- outside the apex none is over a name
+pub cut_outside : (apex n : List (List ℕ)) (cs : List (List (List ℕ))) → all_below apex cs ≡ true → within apex n ≡ false → None ≡ cut_over n cs
+cut_outside apex n cs h f = go (cut_over n cs) (looks_over n cs)
+  where
+    go : (x : Option (List (List ℕ))) → Covers n cs x → None ≡ x
+    go x (covers c m w) = absurd (true≢false (sym (within_laws.transitive apex c n (each_so (within apex) cs h c m) w) ∙ f))
+    go x (uncovered never) = refl
+
+-- the last that isn't after the name, where the name is within the apex; elsewhere whichever
+module _ {X : Type 0} (f : X → List (List ℕ)) (apex n : List (List ℕ)) (xs : List X) (o : apart (map f xs) ≡ true) (below : all_below apex (map f xs) ≡ true) (i : ℕ) (p : within apex n ≡ true → i ≡ cut_place n (map f xs)) where
+  pub cut_none : i ≡ 0 → None ≡ cut_over n (map f xs)
+  cut_none z = ⊎_elim (λ w. cut_first n (map f xs) o [] (sym (p w) ∙ z)) (λ w. cut_outside apex n (map f xs) below w) (cases_Bool (within apex n))
+
+  pub cut_by : (x : X) (b : Bool) → 0 < i → i ≤ length xs → x ≡ get_or xs (i - 1) x → b ≡ within (f x) n → cond b (Some (f x)) None ≡ cut_over n (map f xs)
+  cut_by x b l m e h = ⊎_elim (λ w. cut_read f xs o n i x b (p w) l m e h) (λ w. go w b h) (cases_Bool (within apex n))
+    where
+      go : within apex n ≡ false → (b : Bool) → b ≡ within (f x) n → cond b (Some (f x)) None ≡ cut_over n (map f xs)
+      go w true h = absurd (true≢false (sym (within_laws.transitive apex (f x) n (each_read f (within apex) xs (i - 1) x (omega arith) e below) (sym h)) ∙ w))
+      go w false h = cut_outside apex n (map f xs) below w
+
+-- the last of the first so many
+pub last_of : {X : Type 0} (xs : List X) (i : ℕ) (x : X) → i ≤ length xs → 0 < length (take i xs) → x ≡ get_or (take i xs) (length (take i xs) - 1) x → (0 < i) × (x ≡ get_or xs (i - 1) x)
+last_of xs i x l m e =
+    let n = length-take-le i xs l in
+    let p : length (take i xs) - 1 ≡ i - 1 = omega arith in
+    (omega arith, e ∙ ap (λ j. get_or (take i xs) j x) p ∙ get_or-take i xs (i - 1) x (omega arith))
+
+-- a test of the labels below the apex halves them
+module _ {X : Type 0} (f : X → List (List ℕ)) (apex n : List (List ℕ)) (xs : List X) (o : apart (map f xs) ≡ true) (below : all_below apex (map f xs) ≡ true) (w : within apex n ≡ true) (d : ℕ) (deep : d ≡ length apex) where
+  told : (i : ℕ) (x : X) → i < length xs → is_up_to_below d n (f (get_or xs i x)) ≡ is_le (order (f (get_or xs i x)) n)
+  told i x l =
+      below_found apex n (f (get_or xs i x)) d (order (drop d (f (get_or xs i x))) (drop d n)) (is_up_to_below d n (f (get_or xs i x)))
+      (let m = length-map xs f in ap (within apex) (sym (get_or-map f xs i x (f x) l)) ∙ each_so (within apex) (map f xs) below (get_or (map f xs) i (f x)) (mem_at (map f xs) (f x) i (omega arith))) w deep refl refl
+
+  pub cut_part : IsPartitionedBy (λ x. is_up_to_below d n (f x)) xs
+  cut_part i j x le l h = ⊎_elim
+      (λ (lt : i < j).
+      let m = length-map xs f in
+      told i x (omega arith) ∙ ap (λ c. is_le (order c n)) (sym (get_or-map f xs i x (f x) (omega arith)))
+      ∙ cuts_fall n (map f xs) o (f x) i j lt (omega arith) (ap (λ c. is_le (order c n)) (get_or-map f xs j x (f x) l) ∙ sym (told j x l) ∙ h))
+      (λ (ge : j ≤ i). let e : i ≡ j = omega arith in ap (λ k. is_up_to_below d n (f (get_or xs k x))) e ∙ h)
+      (cases_lt i j)
+
+  pub cut_placed : (m : ℕ) → m ≤ length xs → IsPartitionPoint (λ x. is_up_to_below d n (f x) ≡ true) (λ x. is_up_to_below d n (f x) ≡ false) xs m → m ≡ cut_place n (map f xs)
+  cut_placed m l p = leading_is (λ c. is_le (order c n)) (map f xs) m [] (let k = length-map xs f in omega arith) passing failing
+    where
+      some_at : 0 < length xs → X
+      some_at q = first xs q
+        where
+          first : (ys : List X) → 0 < length ys → X
+          first [] q = absurd (omega arith)
+          first (y ∷ ys) q = y
+
+      read : (i : ℕ) (x : X) → i < length xs → is_le (order (get_or (map f xs) i []) n) ≡ is_up_to_below d n (f (get_or xs i x))
+      read i x q = ap (λ c. is_le (order c n)) (get_or-map f xs i x [] q) ∙ sym (told i x q)
+
+      passing : (i : ℕ) → i < m → is_le (order (get_or (map f xs) i []) n) ≡ true
+      passing i q = let x = some_at (omega arith) in read i x (omega arith) ∙ p.0 i x (omega arith) q
+
+      failing : m < length (map f xs) → is_le (order (get_or (map f xs) m []) n) ≡ false
+      failing q = let k = length-map xs f in let x = some_at (omega arith) in read m x (omega arith) ∙ p.1 m x (omega arith) (omega arith)
+
 -- ---- it speaks
 
 pub record Right (apex : List (List ℕ)) (ss : List Set) (cs : List (List (List ℕ))) : Type 0 where
@@ -229,6 +293,9 @@ at_cut ss c h = go (find (is_exactly c 4) ss) (finds (is_exactly c 4) ss) h
 pub covered_so : (cs : List (List (List ℕ))) (s : Set) → (not (delegates s.kind) || sorts.some (λ c. within c s.name) cs) ≡ true → delegates s.kind ≡ true → (c : List (List ℕ)) × Memᴰ c cs × (within c s.name ≡ true)
 covered_so cs s h e =
     some_so (λ c. within c s.name) cs (⊎_elim (λ f. absurd (true≢false (sym f ∙ not_from_true (delegates s.kind) e))) (λ g. g) (or_cases (not (delegates s.kind)) (sorts.some (λ c. within c s.name) cs) h))
+
+pub all_belong_lem : (apex : List (List ℕ)) (ss : List Set) → valid apex ss ≡ true → all_belong apex ss ≡ true
+all_belong_lem apex ss v = (and_parts (all_belong apex ss) (no_clash ss) (and_parts (all_belong apex ss && no_clash ss) (leb (length ss) 4096) v).0).0
 
 pub belong_at : (apex : List (List ℕ)) (ss : List Set) → all_belong apex ss ≡ true → (t : Set) → Memᴰ t ss → belongs apex t ≡ true
 belong_at apex [] h t m = absurd (Memᴰ.not-nil m)
@@ -313,10 +380,3 @@ none_outside apex ss inside q f = go (highest (is_over apex q) ss) (finds_highes
         let c = and_parts (within apex t.name) (not (delegates t.kind && same t.name apex)) (belong_at apex ss inside t m) in
         absurd (true≢false (sym (within_laws.transitive apex t.name q c.0 b.1) ∙ f))
     go y (none_high never) = refl
-
-pub cut_inside : (apex n c : List (List ℕ)) (cs : List (List (List ℕ))) → all_below apex cs ≡ true → Some c ≡ cut_over n cs → within apex c ≡ true
-cut_inside apex n c cs h e = go (cut_over n cs) (looks_over n cs) e
-  where
-    go : (x : Option (List (List ℕ))) → Covers n cs x → Some c ≡ x → within apex c ≡ true
-    go x (covers d m w) f = let s : c ≡ d = cc in subst (λ y. within apex y ≡ true) (sym s) (each_so (within apex) cs h d m)
-    go x (uncovered never) f = let z : ◌≡◌ {A = ℕ} 0 1 = cc in absurd (omega arith)

@@ -1,5 +1,5 @@
 -- The topmost delegations of a zone, by their names in order.
-use Rattle.std.specs.Prelude.{◌≡◌, ℕ, Bool, true, false, cond, not, ◌&&◌, ◌||◌, List, [], ◌∷◌, is_some, Some, None, Option}
+use Rattle.std.specs.Prelude.{ℕ, Bool, true, cond, not, ◌&&◌, ◌||◌, List, [], ◌∷◌, drop, is_some, Some, None, Option}
 use Rattle.std.specs.Ordering.{is_lt, is_le}
 use Rattle.names.specs.Order.{order, within}
 use Rattle.meaning.specs.Model.{delegates, Set}
@@ -31,6 +31,10 @@ cuts_of apex ss cs = apart cs && all_below apex cs && all_there ss cs && all_cov
 abbrev pub cut_place : List (List ℕ) → List (List (List ℕ)) → ℕ
 cut_place n = leading (λ c. is_le (order c n))
 
+-- the same by labels from a depth on
+abbrev pub is_up_to_below : ℕ → List (List ℕ) → List (List ℕ) → Bool
+is_up_to_below depth n c = is_le (order (drop depth c) (drop depth n))
+
 -- the one at a name or above it
 unfoldable pub cut_over : List (List ℕ) → List (List (List ℕ)) → Option (List (List ℕ))
 cut_over n [] = None
@@ -40,10 +44,6 @@ cut_over n (c ∷ cs) = cond (within c n) (Some c) (cut_over n cs)
 unfoldable pub beyond : List (List ℕ) → List (List (List ℕ)) → List (List (List ℕ))
 beyond n [] = []
 beyond n (c ∷ cs) = cond (within n c) (beyond n cs) (c ∷ cs)
-
-abbrev pub next_below : List (List ℕ) → List (List (List ℕ)) → Bool
-next_below n [] = false
-next_below n (c ∷ cs) = within n c
 
 -- a name more, in its place, where none is over it
 unfoldable pub with_cut : List (List ℕ) → List (List (List ℕ)) → List (List (List ℕ))
@@ -57,9 +57,3 @@ no_other n (Some c) = None
 -- the name of a set that becomes a topmost delegation
 abbrev pub new_cut : Set → List (List (List ℕ)) → Option (List (List ℕ))
 new_cut s cs = cond (delegates s.kind) (no_other s.name (cut_over s.name cs)) None
-
--- cuts of an apex in which the one over a name can be looked for by halving
-pub record CutSearchable (apex n : List (List ℕ)) (cs : List (List (List ℕ))) : Type 0 where
-  pub ordered : apart cs ≡ true
-  pub inside : all_below apex cs ≡ true
-  pub asked : within apex n ≡ true

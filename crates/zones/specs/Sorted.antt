@@ -1,5 +1,5 @@
 -- Sets in the order of names, then kinds, and where a name and kind stand among them.
-use Rattle.std.specs.Prelude.{◌≡◌, ℕ, suc, Bool, true, false, cond, ◌&&◌, ◌||◌, List, [], ◌∷◌, map, length, take, drop}
+use Rattle.std.specs.Prelude.{◌≡◌, ℕ, suc, ◌<◌, ◌≤◌, Bool, true, false, cond, ◌&&◌, ◌||◌, List, [], ◌∷◌, map, length, take, drop, slice_index_or}
 use Rattle.std.specs.Ordering.{is_lt, ordering_then, nat_cmp}
 use Rattle.names.specs.Fronts.{front_below}
 use Rattle.names.specs.Order.{order, within}
@@ -47,12 +47,21 @@ set_at i ss = take 1 (drop i ss)
 abbrev pub fronts_of : ℕ → List Set → List ℕ
 fronts_of depth = map (λ s. front_below depth s.name)
 
--- sets of an apex in which a name can be looked for by halving, and by its labels below the apex
-pub record Searchable (apex n : List (List ℕ)) (fs : List ℕ) (ss : List Set) : Type 0 where
-  pub ordered : sorted ss ≡ true
-  pub inside : all_within apex ss ≡ true
-  pub asked : within apex n ≡ true
-  pub fronts : fs ≡ fronts_of (length apex) ss
+-- the same by labels from a depth on, and of names alone
+abbrev pub is_before_below : ℕ → List (List ℕ) → ℕ → Set → Bool
+is_before_below depth n k s = is_lt (ordering_then (order (drop depth s.name) (drop depth n)) (nat_cmp s.kind k))
+
+abbrev pub is_ahead_below : ℕ → List (List ℕ) → Set → Bool
+is_ahead_below depth n s = is_lt (order (drop depth s.name) (drop depth n))
+
+-- sets from low on have names at or behind a name, those from high on behind it; between them its labels above the apex are
+-- the same as theirs
+pub record Narrowed (apex n : List (List ℕ)) (ss : List Set) (low high : ℕ) : Type 0 where
+  pub rise : low ≤ high
+  pub bound : high ≤ length ss
+  pub before : (i : ℕ) (d : Set) → i < low → is_lt (order (slice_index_or ss i d).name n) ≡ true
+  pub behind : (i : ℕ) (d : Set) → high ≤ i → i < length ss → is_lt (order n (slice_index_or ss i d).name) ≡ true
+  pub asked : low < high → within apex n ≡ true
 
 -- sorted sets are distinct, so the laws of what a zone says hold of every zone that is made
 abbrev pub SortedDistinct : Type 0

@@ -4,20 +4,28 @@ use Rattle.names.specs.declared.fault.Fault.{Fault}
 use Rattle.names.specs.declared.fault.Fault.TheVariants.{NoMemory}
 use Rattle.names.specs.Names.{labels}
 use Rattle.zones.specs.declared.zone.Zone as declared
+use Rattle.zones.specs.declared.sets.SortedSets.{SortedSets}
+use Rattle.zones.specs.declared.cuts.Cuts.{Cuts}
 use Rattle.zones.specs.declared.reply.Reply.{Reply}
 use Rattle.zones.specs.declared.reply.Reply.TheVariants as rust
 use Rattle.meaning.specs.Model as model
 use Rattle.meaning.specs.Says as says
 use Rattle.records.specs.Sets.{set_of}
 
+abbrev pub sets_of : SortedSets → List model.Set
+sets_of s = map set_of (vec_items s.sets)
+
+abbrev pub cuts_in : Cuts → List (List (List ℕ))
+cuts_in c = map labels (vec_items c.names)
+
 abbrev pub zone_of : declared.Zone → model.Zone
 zone_of z = record {
-  apex = labels z.apex;
+  apex = labels z.sets.apex;
   serial = z.serial.number;
-  negative = z.negative.0;
-  refresh = z.refresh.0;
-  expire = z.expire.0;
-  sets = map set_of (vec_items z.sets);
+  negative = z.times.negative.0;
+  refresh = z.times.refresh.0;
+  expire = z.times.expire.0;
+  sets = sets_of z.sets;
 }
 
 abbrev pub zone_from : List (List ℕ) → ℕ → ℕ → ℕ → ℕ → List model.Set → model.Zone

@@ -4,15 +4,14 @@
 ghost use Rattle.zones.specs.Sorted.{SortedDistinct};
 
 mod cuts;
-mod fronted;
 mod reply;
-mod search;
+mod sets;
 mod zone;
 
 pub use meaning::{cases_hold, says_laws, says_means};
 pub use records::{Address, Data, Delegation, Kind, RecordSet, Serial, Ttl};
 pub use reply::Reply;
-pub use zone::{MAX_SETS, Zone};
+pub use zone::{MAX_SETS, Times, Zone};
 
 // A zone's sets are sorted, so they are distinct, which the laws of what a zone says ask for.
 pub fn sorted_distinct()

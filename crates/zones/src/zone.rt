@@ -3,39 +3,38 @@ ghost use Rattle.std.specs.Prelude.{◌≡◌, ◌*◌, ◌≤◌, true, map, le
 ghost use Rattle.names.specs.Names.{labels};
 ghost use Rattle.meaning.specs.Transfer.{all_transferred};
 ghost use Rattle.records.specs.Sets.{set_of};
-ghost use Rattle.zones.specs.Sorted.{fronts_of, sorted};
 ghost use Rattle.zones.specs.Cuts.{cuts_of};
 ghost use Rattle.zones.specs.Valid.{valid};
 
-use names::Name;
-use records::{RecordSet, Serial, Ttl};
+use crate::cuts::Cuts;
+use crate::sets::SortedSets;
+use records::{Serial, Ttl};
 
 pub mod build;
 pub mod lookup;
 
 pub const MAX_SETS: usize = 4096;
 
+// How long it may be remembered that something isn't there; how often a copy is looked at anew, and how long it is good.
+#[derive(Clone, Copy, PartialEq, Eq, Debug)]
+pub struct Times {
+    pub negative: Ttl,
+    pub refresh: Ttl,
+    pub expire: Ttl,
+}
+
 #[derive(Drop)]
 pub struct Zone {
-    apex: Name,
     serial: Serial,
-    // How long it may be remembered that something isn't there.
-    negative: Ttl,
-    // How often a copy is looked at anew, and how long it is good.
-    refresh: Ttl,
-    expire: Ttl,
-    // Strictly in the order of names, then kinds.
-    sets: Vec<RecordSet>,
-    // The front of each set's name below the apex: most names are told apart by that alone.
-    fronts: Vec<u64>,
-    // The names of the topmost delegations, in order.
-    cuts: Vec<Name>,
+    times: Times,
+    // Within the zone's apex, which they keep.
+    sets: SortedSets,
+    cuts: Cuts,
     // How many bytes the sets take in a transfer.
     carried: usize,
-    ghost ordered: { sorted (map set_of sets.items) ≡ true },
-    ghost limited: { valid (labels apex) (map set_of sets.items) ≡ true },
-    ghost cut: { cuts_of (labels apex) (map set_of sets.items) (map labels cuts.items) ≡ true },
-    ghost weighed: { carried ≡ length (all_transferred (map set_of sets.items)) },
-    ghost bounded: { carried ≤ 879 * length (map set_of sets.items) },
-    ghost marked: { fronts.items ≡ fronts_of (length (labels apex)) (map set_of sets.items) },
+    ghost shared: { labels cuts.apex ≡ labels sets.apex },
+    ghost limited: { valid (labels sets.apex) (map set_of sets.sets.items) ≡ true },
+    ghost cut: { cuts_of (labels sets.apex) (map set_of sets.sets.items) (map labels cuts.names.items) ≡ true },
+    ghost weighed: { carried ≡ length (all_transferred (map set_of sets.sets.items)) },
+    ghost bounded: { carried ≤ 879 * length (map set_of sets.sets.items) },
 }

@@ -1,43 +1,30 @@
 // Making a zone, set by set, with every limit.
-ghost use Rattle.std.specs.Prelude.{◌≡◌, true, [], map, length, is_some, Ok, Err, MatchResult, nat_le};
+ghost use Rattle.std.specs.Prelude.{◌≡◌, [], length, is_some, Ok, Err, MatchResult, nat_le};
 ghost use Rattle.std.specs.Option.{option_map};
 ghost use Rattle.names.specs.Names.{labels};
-ghost use Rattle.names.specs.Order.{within};
 ghost use Rattle.meaning.specs.Says.{same, is_exactly, find};
 ghost use Rattle.records.specs.Sets.{set_of};
 ghost use Rattle.zones.specs.Cuts.{new_cut};
 ghost use Rattle.zones.specs.Valid.{clashes, added, insert_set};
-ghost use Rattle.zones.specs.Zones.{zone_of, zone_from, Inserts};
+ghost use Rattle.zones.specs.Zones.{cuts_in, zone_of, zone_from, Inserts};
 
-use super::{MAX_SETS, Zone};
-use crate::cuts::{add_cut, find_cut};
-use crate::fronted::position;
-use crate::search::{find_exact, is_at};
+use super::{MAX_SETS, Times, Zone};
+use crate::cuts::Cuts;
+use crate::sets::SortedSets;
 use names::{Fault, Name};
-use records::{Kind, RecordSet, Serial, Ttl};
+use records::{Kind, RecordSet, Serial};
 use std::alloc::Global;
 
 impl Zone {
     // A zone without sets.
-    pub fn new(
-        heap: Global,
-        apex: Name,
-        serial: Serial,
-        negative: Ttl,
-        refresh: Ttl,
-        expire: Ttl,
-    ) -> Zone
-        ensures { zone_of result ≡ zone_from (labels apex) serial.number negative.0 refresh.0 expire.0 [] }
+    pub fn new(heap: Global, apex: Name, serial: Serial, times: Times) -> Zone
+        ensures { zone_of result ≡ zone_from (labels apex) serial.number times.negative.0 times.refresh.0 times.expire.0 [] }
     {
         Zone {
-            apex,
             serial,
-            negative,
-            refresh,
-            expire,
-            sets: Vec::new(heap),
-            fronts: Vec::new(heap),
-            cuts: Vec::new(heap),
+            times,
+            sets: SortedSets::new(heap, apex),
+            cuts: Cuts::new(heap, apex),
             carried: 0,
         }
     }
@@ -46,24 +33,23 @@ impl Zone {
     fn has_clash(&self, set: &RecordSet) -> bool
         ensures { result ≡ clashes (set_of set.now) (zone_of self.now).sets }
     {
-        let sets = self.sets.as_slice();
         if set.kind().is_alias() {
-            is_at(sets, set.name())
+            self.sets.is_at(set.name())
         } else {
-            find_exact(sets, set.name(), Kind::ALIAS.number()).is_some()
+            self.sets.find(set.name(), Kind::ALIAS).is_some()
         }
     }
 
     fn has_equal(&self, set: &RecordSet) -> bool
         ensures { result ≡ is_some (find (is_exactly (set_of set.now).name (set_of set.now).kind) (zone_of self.now).sets) }
     {
-        find_exact(self.sets.as_slice(), set.name(), set.kind().number()).is_some()
+        self.sets.find(set.name(), set.kind()).is_some()
     }
 
     fn is_at_apex(&self, set: &RecordSet) -> bool
         ensures { result ≡ same (set_of set.now).name (zone_of self.now).apex }
     {
-        *set.name() == self.apex
+        *set.name() == *self.sets.apex()
     }
 
     fn is_full(&self) -> bool
@@ -76,7 +62,7 @@ impl Zone {
     fn check(&self, set: &RecordSet) -> Result<(), Fault>
         ensures { MatchResult result (λ _. added (zone_of self.now).apex (zone_of self.now).sets (set_of set.now) ≡ Ok (insert_set (set_of set.now) (zone_of self.now).sets)) (λ f. added (zone_of self.now).apex (zone_of self.now).sets (set_of set.now) ≡ Err f) }
     {
-        if !set.name().is_within(&self.apex) {
+        if !set.name().is_within(self.sets.apex()) {
             return Err(Fault::Misplaced);
         }
         if self.has_equal(set) {
@@ -96,16 +82,11 @@ impl Zone {
 
     // The name of a set that becomes one of the topmost delegations.
     fn new_cut(&self, set: &RecordSet) -> Option<Name>
-        requires { within (zone_of self.now).apex (set_of set.now).name ≡ true }
-        ensures { option_map labels result ≡ new_cut (set_of set.now) (map labels self.now.cuts.items) }
+        ensures { option_map labels result ≡ new_cut (set_of set.now) (cuts_in self.now.cuts) }
     {
-        if set.kind().is_delegation()
-            && find_cut(self.cuts.as_slice(), &self.apex, set.name()).is_none()
-        {
-            Some(*set.name())
-        } else {
-            None
-        }
+        let name = set.name();
+        let is_topmost = set.kind().is_delegation() && self.cuts.find(name).is_none();
+        is_topmost.then(|| *name)
     }
 
     // One set more; a refusal leaves the zone as it was.
@@ -113,24 +94,14 @@ impl Zone {
         ensures { Inserts (added (zone_of self.old).apex (zone_of self.old).sets (set_of set)) (zone_of self.old) result (zone_of self.new) }
     {
         self.check(&set)?;
-        let at = position(
-            self.sets.as_slice(),
-            self.fronts.as_slice(),
-            &self.apex,
-            set.name(),
-            set.kind().number(),
-        );
         let cut = self.new_cut(&set);
         let len = set.transfer_len();
-        let front = set.name().front_below(self.apex.label_count());
         // Room first, so that nothing can fail once the set is in.
-        self.cuts.reserve(1)?;
-        self.fronts.reserve(1)?;
-        self.sets.insert(at, set)?;
-        let _ = self.fronts.insert(at, front);
+        self.cuts.reserve()?;
+        self.sets.insert(set)?;
         self.carried += len;
         if let Some(name) = cut {
-            add_cut(&mut self.cuts, &self.apex, name);
+            self.cuts.add(name);
         }
         Ok(())
     }

@@ -1,21 +1,17 @@
 // What a zone says of a name and a kind, found by searches that halve.
-ghost use Rattle.std.specs.Prelude.{◌≡◌, true, map, length, MatchResult};
+ghost use Rattle.std.specs.Prelude.{◌≡◌, map, length, MatchResult};
 ghost use Rattle.std.specs.Option.{option_map};
 ghost use Rattle.names.specs.declared.fault.Fault.TheVariants.{NoMemory};
 ghost use Rattle.names.specs.Names.{labels};
-ghost use Rattle.names.specs.Order.{within};
 ghost use Rattle.meaning.specs.Laws.{is_hidden, hidden};
 ghost use Rattle.meaning.specs.Says.{is_over, highest, speaker, says, time_of};
 ghost use Rattle.meaning.specs.Transfer.{all_transferred};
 ghost use Rattle.records.specs.Sets.{set_of};
-ghost use Rattle.zones.specs.Zones.{speaker_of};
-ghost use Rattle.zones.specs.Zones.{zone_of};
+ghost use Rattle.zones.specs.Zones.{speaker_of, zone_of};
 
 use super::Zone;
-use crate::cuts::find_cut;
-use crate::fronted::{find_exact, reply_among};
 use crate::reply::Reply;
-use crate::search::{find_delegation, is_exactly, is_under};
+use crate::sets::search::is_exactly;
 use names::{Fault, Name};
 use records::{Kind, RecordSet, Serial, Ttl};
 use std::alloc::Global;
@@ -23,27 +19,17 @@ use std::alloc::Global;
 impl Zone {
     // The highest delegation at a name or above it, and below the apex.
     fn find_delegation(&self, name: &Name) -> Option<&RecordSet>
-        requires { within (zone_of self.now).apex (labels name.now) ≡ true }
         ensures { option_map (λ s. set_of s.now) result ≡ highest (is_over (zone_of self.now).apex (labels name.now)) (zone_of self.now).sets }
     {
-        match find_cut(self.cuts.as_slice(), &self.apex, name) {
-            Some(cut) => find_exact(
-                self.sets.as_slice(),
-                self.fronts.as_slice(),
-                &self.apex,
-                cut,
-                Kind::DELEGATION.number(),
-            ),
-            None => None,
-        }
+        self.sets.find(self.cuts.find(name)?, Kind::DELEGATION)
     }
 
     // Outside the apex no set stands at the name and no delegation over it: all that is left is whether one is below it.
     fn reply(&self, name: &Name, kind: Kind) -> Reply<'_>
         ensures { speaker_of result ≡ speaker (zone_of self.now) (labels name.now) kind.number }
     {
-        if !name.is_within(&self.apex) {
-            return if is_under(self.sets.as_slice(), name) {
+        if !name.is_within(self.sets.apex()) {
+            return if self.sets.is_under(name) {
                 Reply::NoData
             } else {
                 Reply::NoName
@@ -51,13 +37,7 @@ impl Zone {
         }
         match self.find_delegation(name) {
             Some(set) => Reply::Referral(set),
-            None => reply_among(
-                self.sets.as_slice(),
-                self.fronts.as_slice(),
-                &self.apex,
-                name,
-                kind.number(),
-            ),
+            None => self.sets.reply_among(name, kind),
         }
     }
 
@@ -65,11 +45,8 @@ impl Zone {
     pub fn lookup(&self, name: &Name, kind: Kind) -> Option<Reply<'_>>
         ensures { option_map speaker_of result ≡ says (zone_of self.now) (labels name.now) kind.number }
     {
-        if name.is_within(&self.apex) {
-            Some(self.reply(name, kind))
-        } else {
-            None
-        }
+        name.is_within(self.sets.apex())
+            .then(|| self.reply(name, kind))
     }
 
     // For how many seconds a reply of this zone may be remembered.
@@ -77,11 +54,8 @@ impl Zone {
         ensures { result.0 ≡ time_of (zone_of self.now) (speaker_of reply.now) }
     {
         match reply {
-            Reply::Data(set) => set.ttl(),
-            Reply::Alias(set) => set.ttl(),
-            Reply::Referral(set) => set.ttl(),
-            Reply::NoData => self.negative,
-            Reply::NoName => self.negative,
+            Reply::Data(set) | Reply::Alias(set) | Reply::Referral(set) => set.ttl(),
+            Reply::NoData | Reply::NoName => self.times.negative,
         }
     }
 
@@ -89,29 +63,22 @@ impl Zone {
     pub fn is_hidden(&self, set: &RecordSet) -> bool
         ensures { result ≡ is_hidden (zone_of self.now) (set_of set.now) }
     {
-        match find_delegation(self.sets.as_slice(), &self.apex, set.name()) {
-            None => false,
-            Some(over) => !is_exactly(over, set.name(), set.kind().number()),
-        }
+        let over = self.sets.find_delegation(set.name());
+        over.is_some_and(|over| !is_exactly(over, set.name(), set.kind()))
     }
 
     // The sets that are never told, in their order.
     pub fn hidden(&self, heap: Global) -> Result<Vec<&RecordSet>, Fault>
         ensures { MatchResult result (λ v. map (λ s. set_of s.now) v.items ≡ hidden (zone_of self.now)) (λ f. f ≡ NoMemory) }
     {
-        let mut found = Vec::new(heap);
-        for set in self.sets.as_slice() {
-            if self.is_hidden(set) {
-                found.push(set)?;
-            }
-        }
-        Ok(found)
+        let sets = self.sets.as_slice().iter();
+        Ok(sets.filter(|set| self.is_hidden(set)).collect(heap)?)
     }
 
     pub fn apex(&self) -> &Name
         ensures { labels result.now ≡ (zone_of self.now).apex }
     {
-        &self.apex
+        self.sets.apex()
     }
 
     pub fn serial(&self) -> Serial
@@ -123,19 +90,19 @@ impl Zone {
     pub fn negative(&self) -> Ttl
         ensures { result.0 ≡ (zone_of self.now).negative }
     {
-        self.negative
+        self.times.negative
     }
 
     pub fn refresh(&self) -> Ttl
         ensures { result.0 ≡ (zone_of self.now).refresh }
     {
-        self.refresh
+        self.times.refresh
     }
 
     pub fn expire(&self) -> Ttl
         ensures { result.0 ≡ (zone_of self.now).expire }
     {
-        self.expire
+        self.times.expire
     }
 
     pub fn sets(&self) -> &[RecordSet]

@@ -1,24 +1,17 @@
-use Rattle.std.proofs.Common.{map, vec_items, sym, refl, ap, ◌∙◌}
+use Rattle.std.proofs.Common.{◌≡◌, map, filter, vec_items, ap, ◌∙◌, rules, tests}
+use Rattle.std.proofs.lemmas.Iterator.{YieldsList-from_slice}
+use Rattle.std.proofs.lemmas.Iterator.Consumers.{map_from_collect, YieldsList-from_filter, YieldsList-at}
+use Rattle.std.proofs.lemmas.Result.{IfOk-at_ok}
 use Rattle.records.specs.Sets.{set_of}
 use Rattle.meaning.specs.Laws.{is_hidden, keep}
 use Rattle.zones.specs.Zones.{zone_of}
-use Rattle.zones.proofs.Picked.{none_picked, passed_by, one_picked, all_picked}
-use Rattle.zones.proofs.zone.Zone.hidden.Goals.{then-is_hidden+in_ok-push, else-is_hidden}
+use Rattle.zones.proofs.Picked.{picked}
 use Rattle.zones.proofs.zone.Zone.hidden.Goals as goal
-
-pub loop-set-init : goal.loop-set-init
-loop-set-init c = none_picked (is_hidden (zone_of c.args.self.now)) set_of (λ s. set_of s.now) c.as_slice-set-items.result.now (vec_items c.new-found.result) c.new-found.ensures.items
-
-pub loop-set-preserved : goal.loop-set-preserved
-loop-set-preserved c =
-    elim c.if-is_hidden.branch [
-      | then-is_hidden+in_ok-push w ↦
-          one_picked (is_hidden (zone_of c.args.self.now)) set_of (λ s. set_of s.now) c.as_slice-set-items.result.now (vec_items c.loop-set.found) _ c.loop-set.set-index c.set-item.result _ c.loop-set.invariant (ap vec_items w.found-is ∙ w.in_ok-push.ensures.items) refl c.loop-set-test.true c.set-item.is (sym w.if-is_hidden.ensures)
-      | else-is_hidden w ↦
-          passed_by (is_hidden (zone_of c.args.self.now)) set_of (λ s. set_of s.now) c.as_slice-set-items.result.now (vec_items c.loop-set.found) _ c.loop-set.set-index c.set-item.result c.loop-set.invariant (ap vec_items w.found-is) c.loop-set-test.true c.set-item.is (sym w.if-is_hidden.ensures)
-    ]
 
 pub returns : goal.returns
 returns c =
-    all_picked (is_hidden (zone_of c.args.self.now)) set_of (λ s. set_of s.now) c.as_slice-set-items.result.now (vec_items c.loop-set.found) c.loop-set.set-index c.loop-set.invariant c.loop-set-test.false
-    ∙ ap (λ xs. keep (is_hidden (zone_of c.args.self.now)) (map set_of xs)) c.as_slice-set-items.ensures.value
+    let z = zone_of c.args.self.now in
+    let xs = c.as_slice.result.now in
+    let got : map (λ s. s.now) (vec_items c.in_ok-collect.field-0) ≡ filter (λ s. is_hidden z (set_of s)) xs =
+    IfOk-at_ok _ c.in_ok-collect.was (map_from_collect _ c.collect.ensures.ran (YieldsList-from_filter _ (λ s. is_hidden z (set_of s)) (YieldsList-at c.filter.ensures.source (YieldsList-from_slice xs cc)) c.filter.ensures.closure (λ x b q k. search (rules, tests)))) in
+    picked (is_hidden z) set_of (λ s. s.now) (vec_items c.in_ok-collect.field-0) xs got ∙ ap (keep (is_hidden z)) c.as_slice.ensures

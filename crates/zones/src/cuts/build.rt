@@ -1,0 +1,59 @@
+// Keeping the topmost delegations as sets come in.
+ghost use Rattle.std.specs.Prelude.{◌≡◌, ◌+◌, ◌<◌, ◌≤◌, true, [], None, vec_len, vec_capacity, MatchResult};
+ghost use Rattle.std.specs.List.{remove_range};
+ghost use Rattle.names.specs.declared.fault.Fault.TheVariants.{NoMemory};
+ghost use Rattle.names.specs.Names.{labels};
+ghost use Rattle.names.specs.Order.{within};
+ghost use Rattle.zones.specs.Cuts.{cut_over, with_cut};
+ghost use Rattle.zones.specs.Zones.{cuts_in};
+
+use super::Cuts;
+use names::{Fault, Name};
+use std::alloc::Global;
+
+// So many names from an index on go. A drain moves all that are behind it, even where none goes.
+fn take_out(names: &mut Vec<Name>, at: usize, count: usize)
+    requires { at + count ≤ vec_len names.old }
+    ensures items { names.new.items ≡ remove_range names.old.items at (at + count) }
+    ensures capacity { vec_capacity names.new ≡ vec_capacity names.old }
+{
+    if count > 0 {
+        drop(names.drain(at..at + count));
+    }
+}
+
+impl Cuts {
+    pub fn new(heap: Global, apex: Name) -> Cuts
+        ensures apex { labels result.apex ≡ labels apex }
+        ensures cuts { cuts_in result ≡ [] }
+    {
+        Cuts {
+            apex,
+            names: Vec::new(heap),
+        }
+    }
+
+    // Room for one more.
+    pub fn reserve(&mut self) -> Result<(), Fault>
+        ensures apex { labels self.new.apex ≡ labels self.old.apex }
+        ensures cuts { cuts_in self.new ≡ cuts_in self.old }
+        ensures room { MatchResult result (λ _. vec_len self.new.names < vec_capacity self.new.names) (λ f. f ≡ NoMemory) }
+    {
+        self.names.reserve(1)?;
+        Ok(())
+    }
+
+    // A delegation more, where none is over it yet: those within it are topmost no more.
+    pub fn add(&mut self, name: Name)
+        requires inside { within (labels self.old.apex) (labels name) ≡ true }
+        requires topmost { cut_over (labels name) (cuts_in self.old) ≡ None }
+        requires room { vec_len self.old.names < vec_capacity self.old.names }
+        ensures apex { labels self.new.apex ≡ labels self.old.apex }
+        ensures cuts { cuts_in self.new ≡ with_cut (labels name) (cuts_in self.old) }
+    {
+        let at = self.position(&name);
+        let below = self.names.as_slice()[at..].partition_point(|cut| cut.is_within(&name));
+        take_out(&mut self.names, at, below);
+        let _ = self.names.insert(at, name);
+    }
+}

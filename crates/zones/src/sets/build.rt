@@ -1,0 +1,61 @@
+// Making sorted sets, and reading them as they stand.
+ghost use Rattle.std.specs.Prelude.{◌≡◌, true, false, [], map, length, is_some, MatchResult};
+ghost use Rattle.names.specs.declared.fault.Fault.TheVariants.{NoMemory};
+ghost use Rattle.names.specs.Names.{labels};
+ghost use Rattle.names.specs.Order.{within};
+ghost use Rattle.meaning.specs.Says.{is_exactly, find};
+ghost use Rattle.records.specs.Sets.{set_of};
+ghost use Rattle.zones.specs.Valid.{insert_set};
+ghost use Rattle.zones.specs.Zones.{sets_of};
+
+use super::SortedSets;
+use names::{Fault, Name};
+use records::RecordSet;
+use std::alloc::Global;
+
+impl SortedSets {
+    pub fn new(heap: Global, apex: Name) -> SortedSets
+        ensures apex { labels result.apex ≡ labels apex }
+        ensures sets { sets_of result ≡ [] }
+    {
+        SortedSets {
+            apex,
+            sets: Vec::new(heap),
+            fronts: Vec::new(heap),
+        }
+    }
+
+    pub fn apex(&self) -> &Name
+        ensures { labels result.now ≡ labels self.now.apex }
+    {
+        &self.apex
+    }
+
+    pub fn len(&self) -> usize
+        ensures { result ≡ length (sets_of self.now) }
+    {
+        self.sets.len()
+    }
+
+    pub fn as_slice(&self) -> &[RecordSet]
+        ensures { map set_of result.now ≡ sets_of self.now }
+    {
+        self.sets.as_slice()
+    }
+
+    // One set more, in its place.
+    pub fn insert(&mut self, set: RecordSet) -> Result<(), Fault>
+        requires inside { within (labels self.old.apex) (set_of set).name ≡ true }
+        requires fresh { is_some (find (is_exactly (set_of set).name (set_of set).kind) (sets_of self.old)) ≡ false }
+        ensures apex { labels self.new.apex ≡ labels self.old.apex }
+        ensures sets { MatchResult result (λ _. sets_of self.new ≡ insert_set (set_of set) (sets_of self.old)) (λ f. (f ≡ NoMemory) × (sets_of self.new ≡ sets_of self.old)) }
+    {
+        let at = self.position(set.name(), set.kind());
+        let front = set.name().front_below(self.apex.label_count());
+        // Room first, so that nothing can fail once the set is in.
+        self.fronts.reserve(1)?;
+        self.sets.insert(at, set)?;
+        let _ = self.fronts.insert(at, front);
+        Ok(())
+    }
+}

@@ -1,0 +1,139 @@
+// Searches of sorted sets: each halves, and finds what a look through all of them would find, of names outside the apex too.
+ghost use Rattle.std.specs.Prelude.{◌≡◌, ◌≤◌, true, length};
+ghost use Rattle.std.specs.Option.{option_map};
+ghost use Rattle.names.specs.Names.{labels};
+ghost use Rattle.names.specs.Order.{within};
+ghost use Rattle.meaning.specs.Says.{is_over, is_exactly, find, highest, any_under};
+ghost use Rattle.records.specs.Sets.{set_of};
+ghost use Rattle.zones.specs.Sorted.{is_before_below, is_ahead_below, place, Narrowed};
+ghost use Rattle.zones.specs.Valid.{any_at};
+ghost use Rattle.zones.specs.Zones.{sets_of};
+
+use super::SortedSets;
+use names::Name;
+use records::{Kind, RecordSet};
+use std::cmp::Ordering;
+
+// Whether a name stands before another, by their labels from a depth on.
+fn is_ahead(set: &RecordSet, name: &Name, depth: usize) -> bool
+    ensures { result ≡ is_ahead_below depth (labels name.now) (set_of set.now) }
+{
+    set.name().compare_below(name, depth).is_lt()
+}
+
+// Whether a set stands before a name and kind, by the labels from a depth on.
+fn is_before(set: &RecordSet, name: &Name, kind: Kind, depth: usize) -> bool
+    ensures { result ≡ is_before_below depth (labels name.now) kind.number (set_of set.now) }
+{
+    match set.name().compare_below(name, depth) {
+        Ordering::Less => true,
+        Ordering::Equal => set.kind() < kind,
+        Ordering::Greater => false,
+    }
+}
+
+pub fn is_exactly(set: &RecordSet, name: &Name, kind: Kind) -> bool
+    ensures { result ≡ is_exactly (labels name.now) kind.number (set_of set.now) }
+{
+    *set.name() == *name && set.kind() == kind
+}
+
+impl SortedSets {
+    // From where to where sets could stand at a name within the apex: those before have names before it, those behind have
+    // names behind it. Only between the two, where the fronts are mostly the same, do labels have to be compared.
+    pub fn narrow_within(&self, name: &Name) -> (usize, usize)
+        requires { within (labels self.now.apex) (labels name.now) ≡ true }
+        ensures { Narrowed (labels self.now.apex) (labels name.now) (sets_of self.now) result.0 result.1 }
+    {
+        let sought = name.front_below(self.apex.label_count());
+        let fronts = self.fronts.as_slice();
+        let low = fronts.partition_point(|front| *front < sought);
+        // Most fronts stand alone, so a look at the next one saves a second search.
+        if fronts.len() - low < 2 || fronts[low + 1] != sought {
+            return (low, fronts.len().min(low + 1));
+        }
+        let alike = fronts[low..].partition_point(|front| *front == sought);
+        (low, low + alike)
+    }
+
+    // The same of any name: outside the apex it stands before all sets, or behind them.
+    fn narrow(&self, name: &Name) -> (usize, usize)
+        ensures { Narrowed (labels self.now.apex) (labels name.now) (sets_of self.now) result.0 result.1 }
+    {
+        if name.is_within(&self.apex) {
+            return self.narrow_within(name);
+        }
+        let at = if *name < self.apex {
+            0
+        } else {
+            self.sets.len()
+        };
+        (at, at)
+    }
+
+    // How many sets stand before a name and kind, where sets could stand at the name only from low to high.
+    pub fn place_between(&self, low: usize, high: usize, name: &Name, kind: Kind) -> usize
+        requires { Narrowed (labels self.now.apex) (labels name.now) (sets_of self.now) low high }
+        ensures value { result ≡ place (labels name.now) kind.number (sets_of self.now) }
+        ensures bound { result ≤ length (sets_of self.now) }
+    {
+        let depth = self.apex.label_count();
+        let between = &self.sets.as_slice()[low..high];
+        low + between.partition_point(|set| is_before(set, name, kind, depth))
+    }
+
+    // How many sets stand before a name and kind.
+    pub fn position(&self, name: &Name, kind: Kind) -> usize
+        ensures value { result ≡ place (labels name.now) kind.number (sets_of self.now) }
+        ensures bound { result ≤ length (sets_of self.now) }
+    {
+        let (low, high) = self.narrow(name);
+        self.place_between(low, high, name, kind)
+    }
+
+    // How many sets have names before a name.
+    fn first_at(&self, name: &Name) -> usize
+        ensures { result ≡ place (labels name.now) 0 (sets_of self.now) }
+    {
+        let (low, high) = self.narrow(name);
+        let depth = self.apex.label_count();
+        let alike = &self.sets.as_slice()[low..high];
+        low + alike.partition_point(|set| is_ahead(set, name, depth))
+    }
+
+    // The set of a name and kind.
+    pub fn find(&self, name: &Name, kind: Kind) -> Option<&RecordSet>
+        ensures { option_map (λ s. set_of s.now) result ≡ find (is_exactly (labels name.now) kind.number) (sets_of self.now) }
+    {
+        let set = self.sets.get(self.position(name, kind))?;
+        is_exactly(set, name, kind).then_some(set)
+    }
+
+    // Whether anything stands at a name or below it.
+    pub fn is_under(&self, name: &Name) -> bool
+        ensures { result ≡ any_under (labels name.now) (sets_of self.now) }
+    {
+        let first = self.sets.get(self.first_at(name));
+        first.is_some_and(|set| set.name().is_within(name))
+    }
+
+    // Whether a set stands at a name.
+    pub fn is_at(&self, name: &Name) -> bool
+        ensures { result ≡ any_at (labels name.now) (sets_of self.now) }
+    {
+        let first = self.sets.get(self.first_at(name));
+        first.is_some_and(|set| *name == *set.name())
+    }
+
+    // The highest delegation at a name or above it, and below the apex: the first that is met from the apex down.
+    pub fn find_delegation(&self, name: &Name) -> Option<&RecordSet>
+        ensures { option_map (λ s. set_of s.now) result ≡ highest (is_over (labels self.now.apex) (labels name.now)) (sets_of self.now) }
+    {
+        for depth in self.apex.label_count()..name.label_count() {
+            if let Some(set) = self.find(&name.ancestor(depth + 1), Kind::DELEGATION) {
+                return Some(set);
+            }
+        }
+        None
+    }
+}
