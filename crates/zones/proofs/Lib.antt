@@ -1,7 +1,6 @@
 mod Picked
 mod Places
 mod ByPlace
-mod Down
 mod Beside
 mod Topmost
 mod Narrow

@@ -3,7 +3,7 @@ ghost use Rattle.std.specs.Prelude.{◌≡◌, ◌≤◌, true, length};
 ghost use Rattle.std.specs.Option.{option_map};
 ghost use Rattle.names.specs.Names.{labels};
 ghost use Rattle.names.specs.Order.{within};
-ghost use Rattle.meaning.specs.Says.{is_over, is_exactly, find, highest, any_under};
+ghost use Rattle.meaning.specs.Says.{is_exactly, find, any_under};
 ghost use Rattle.records.specs.Sets.{set_of};
 ghost use Rattle.zones.specs.Sorted.{is_before_below, is_ahead_below, place, Narrowed};
 ghost use Rattle.zones.specs.Valid.{any_at};
@@ -123,17 +123,5 @@ impl SortedSets {
     {
         let first = self.sets.get(self.first_at(name));
         first.is_some_and(|set| *name == *set.name())
-    }
-
-    // The highest delegation at a name or above it, and below the apex: the first that is met from the apex down.
-    pub fn find_delegation(&self, name: &Name) -> Option<&RecordSet>
-        ensures { option_map (λ s. set_of s.now) result ≡ highest (is_over (labels self.now.apex) (labels name.now)) (sets_of self.now) }
-    {
-        for depth in self.apex.label_count()..name.label_count() {
-            if let Some(set) = self.find(&name.ancestor(depth + 1), Kind::DELEGATION) {
-                return Some(set);
-            }
-        }
-        None
     }
 }

@@ -63,7 +63,7 @@ impl Zone {
     pub fn is_hidden(&self, set: &RecordSet) -> bool
         ensures { result ≡ is_hidden (zone_of self.now) (set_of set.now) }
     {
-        let over = self.sets.find_delegation(set.name());
+        let over = self.find_delegation(set.name());
         over.is_some_and(|over| !is_exactly(over, set.name(), set.kind()))
     }
 
