@@ -38,6 +38,7 @@ impl Plan {
     }
 }
 
+// The last digit alone: a number printed into a text of its own would have to be allocated.
 fn digit(number: u64) -> u8 {
     b'0' + (number % 10) as u8
 }
@@ -62,8 +63,8 @@ pub fn named(class: u8, number: u64) -> Result<Name, Fault> {
     apex()?.child(&label(class, number))
 }
 
-fn put(zone: &mut Zone, name: Name, kind: u8, content: Data) -> Result<(), Fault> {
-    zone.insert(RecordSet::new(name, Kind::try_from(kind)?, Ttl(3600), content)?)
+fn put(zone: &mut Zone, name: Name, kind: Kind, content: Data) -> Result<(), Fault> {
+    zone.insert(RecordSet::new(name, kind, Ttl(3600), content)?)
 }
 
 fn addresses(heap: Global) -> Result<Vec<Address>, Fault> {
@@ -83,22 +84,27 @@ fn text(heap: Global) -> Result<Vec<Vec<u8>>, Fault> {
 fn put_all(heap: Global, zone: &mut Zone, plan: &Plan) -> Result<(), Fault> {
     for i in 0..plan.addresses {
         let data = Data::Addresses(addresses(heap)?);
-        put(zone, named(b'a', i)?, 1, data)?;
+        put(zone, named(b'a', i)?, Kind::ADDRESS, data)?;
     }
     for i in 0..plan.aliases {
-        put(zone, named(b'b', i)?, 5, Data::Alias(named(b'a', i)?))?;
+        put(
+            zone,
+            named(b'b', i)?,
+            Kind::ALIAS,
+            Data::Alias(named(b'a', i)?),
+        )?;
     }
     for i in 0..plan.delegations {
         let servers = addresses(heap)?;
         let data = Data::Delegation(Delegation { servers });
-        put(zone, named(b'd', i)?, 4, data)?;
+        put(zone, named(b'd', i)?, Kind::DELEGATION, data)?;
     }
     for i in 0..plan.empties {
         let data = Data::Addresses(addresses(heap)?);
-        put(zone, named(b'e', i)?.child(b"x")?, 1, data)?;
+        put(zone, named(b'e', i)?.child(b"x")?, Kind::ADDRESS, data)?;
     }
     for i in 0..plan.texts {
-        put(zone, named(b't', i)?, 2, Data::Texts(text(heap)?))?;
+        put(zone, named(b't', i)?, Kind::TEXT, Data::Texts(text(heap)?))?;
     }
     Ok(())
 }

@@ -8,7 +8,7 @@ mod questions;
 use lines::number;
 use questions::Question;
 use std::alloc::Global;
-use std::{env, io};
+use std::{env, fmt, io};
 use zones::{Reply, Zone};
 
 // How often each reply came.
@@ -43,22 +43,23 @@ fn ask(zone: &Zone, questions: &[Question], wanted: u64) -> Tally {
     tally
 }
 
-fn report(rt: &HostRuntime, tally: Tally) -> io::Result<()> {
-    let (data, alias, referral) = (tally.data, tally.alias, tally.referral);
-    println!(rt; "data {data} alias {alias} referral {referral}")?;
-    let (no_data, no_name, outside) = (tally.no_data, tally.no_name, tally.outside);
-    println!(rt; "no data {no_data} no name {no_name} outside {outside}")
+impl fmt::Display for Tally {
+    fn fmt<W: fmt::Write>(&self, f: &mut fmt::Formatter<W>) -> fmt::Result {
+        let (data, alias, referral) = (self.data, self.alias, self.referral);
+        writeln!(f, "data {data} alias {alias} referral {referral}")?;
+        let (no_data, no_name, outside) = (self.no_data, self.no_name, self.outside);
+        write!(f, "no data {no_data} no name {no_name} outside {outside}")
+    }
 }
 
 fn lookup(rt: &HostRuntime, heap: Global, sets: u64, wanted: u64) -> io::Result<()> {
     let plan = load::Plan::new(sets);
     let made = load::zone(heap, &plan).map_err(|_| io::Error::other("no such zone"))?;
-    let questions =
-        questions::mix(heap, &plan).map_err(|_| io::Error::other("no such questions"))?;
+    let questions = questions::mix(heap, &plan).map_err(|_| io::Error::other("no such questions"))?;
     let tally = ask(&made, questions.as_slice(), wanted);
     let loaded = made.sets().len();
     println!(rt; "sets {loaded}")?;
-    report(rt, tally)
+    println!(rt; "{tally}")
 }
 
 fn run(rt: &HostRuntime, heap: Global) -> io::Result<()> {

@@ -40,7 +40,7 @@ fn longer(label: [u8; 5]) -> [u8; 6] {
 }
 
 pub fn mix(heap: Global, plan: &Plan) -> Result<Vec<Question>, Fault> {
-    let kind = Kind::try_from(1)?;
+    let kind = Kind::ADDRESS;
     let mut questions = Vec::new(heap);
     for turn in 0..QUESTIONS {
         let name = asked(plan, turn)?;

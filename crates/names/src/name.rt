@@ -23,7 +23,7 @@ pub const MAX_WRITTEN: usize = 255;
 pub struct Name {
     // The bytes of the labels, one label behind the other.
     bytes: [u8; MAX_WRITTEN],
-    // Where each label ends.
+    // Where each label ends. Sixteen ends and a count beside them: the project wants names that own no heap memory.
     ends: [u8; MAX_LABELS],
     count: u8,
     ghost counted: { count ≤ length ends },

@@ -15,9 +15,9 @@ fn zone(heap: Global, apex: &[u8]) -> Result<Zone, Fault> {
     Ok(Zone::new(heap, apex, serial, times))
 }
 
-fn put(zone: &mut Zone, name: &[u8], kind: u8, ttl: u32, content: Data) -> Result<(), Fault> {
+fn put(zone: &mut Zone, name: &[u8], kind: Kind, ttl: u32, content: Data) -> Result<(), Fault> {
     let name = Name::read_whole(name)?;
-    zone.insert(RecordSet::new(name, Kind::try_from(kind)?, Ttl(ttl), content)?)
+    zone.insert(RecordSet::new(name, kind, Ttl(ttl), content)?)
 }
 
 fn address(heap: Global, last: u8) -> Result<Vec<Address>, Fault> {
@@ -31,18 +31,30 @@ fn delegate(heap: Global, zone: &mut Zone, name: &[u8], server: u8) -> Result<()
     put(
         zone,
         name,
-        4,
+        Kind::DELEGATION,
         3600,
         Data::Delegation(Delegation { servers }),
     )
 }
 
 fn place(heap: Global, zone: &mut Zone, name: &[u8], last: u8) -> Result<(), Fault> {
-    put(zone, name, 1, 3600, Data::Addresses(address(heap, last)?))
+    put(
+        zone,
+        name,
+        Kind::ADDRESS,
+        3600,
+        Data::Addresses(address(heap, last)?),
+    )
 }
 
 fn alias(zone: &mut Zone, name: &[u8], to: &[u8]) -> Result<(), Fault> {
-    put(zone, name, 5, 600, Data::Alias(Name::read_whole(to)?))
+    put(
+        zone,
+        name,
+        Kind::ALIAS,
+        600,
+        Data::Alias(Name::read_whole(to)?),
+    )
 }
 
 fn root(heap: Global) -> Result<Zone, Fault> {

@@ -50,6 +50,7 @@ impl Name {
     }
 }
 
+// Not derived, and the order neither: bytes past the last label count for nothing, and names are compared label by label.
 impl PartialEq for Name {
     ghost eq = { on labels (pointwise (pointwise nat_eq)) };
 

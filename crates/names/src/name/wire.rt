@@ -15,14 +15,9 @@ use std::alloc::AllocError;
 fn cut_label(bytes: &[u8]) -> Option<(&[u8], &[u8])>
     ensures { option_map (λ p. (p.0.now, p.1.now)) result ≡ cut_label bytes.now }
 {
-    let [len, rest @ ..] = bytes else {
-        return None;
-    };
+    let (len, rest) = bytes.split_first()?;
     let len = *len as usize;
-    if len > rest.len() {
-        return None;
-    }
-    Some(rest.split_at(len))
+    rest.split_at_checked(len)
 }
 
 // Reads from the front of a packet; what is refused stays there to be read.
