@@ -33,9 +33,6 @@ module _ (ss : List Set) (o : sorted ss ≡ true) (apex q : List (List ℕ)) whe
       let r = and_parts (delegates t.kind) (within t.name q) p.0 in
       (r.0, r.1, ltb-true (length apex) (length t.name) p.1)
 
-  pub from_apex : Deeper ss apex q (length apex)
-  from_apex t m h = (parts t h).2
-
   -- none at the next label
   pub down : (depth : ℕ) → Deeper ss apex q depth → None ≡ find (is_exactly (take (depth + 1) q) 4) ss → Deeper ss apex q (depth + 1)
   down depth d h t m p = go (find (is_exactly (take (depth + 1) q) 4) ss) (finds (is_exactly (take (depth + 1) q) 4) ss) h

@@ -1,17 +1,10 @@
-use Rattle.std.proofs.Common.{sym, ap, ◌∙◌, subst, arith}
+use Rattle.std.proofs.Common.{ap, ◌∙◌, arith}
 use Rattle.names.specs.Names.{labels}
 use Rattle.meaning.specs.Says.{is_exactly, find}
 use Rattle.records.specs.Sets.{set_of}
 use Rattle.zones.specs.Zones.{sets_of}
-use Rattle.zones.proofs.Down.{Deeper, from_apex, down, found_down, all_down}
+use Rattle.zones.proofs.Down.{down, found_down, all_down}
 use Rattle.zones.proofs.sets.SortedSets.find_delegation.Goals as goal
-
-pub loop-depth-init : goal.loop-depth-init
-loop-depth-init c =
-    let ss = sets_of c.args.self.now in
-    let a = labels c.args.self.now.apex in
-    let q = labels c.args.name.now in
-    (omega arith, subst (Deeper ss a q) (sym c.label_count-depth.ensures) (from_apex ss c.args.self.now.ordered a q))
 
 pub returns-in-Some : goal.returns-in-Some
 returns-in-Some c =
