@@ -25,7 +25,7 @@ fn is_before(set: &RecordSet, name: &Name, kind: Kind, depth: usize) -> bool
     ensures { result ≡ is_before_below depth (labels name.now) kind.number (set_of set.now) }
 {
     let by_name = set.name().compare_below(name, depth);
-    by_name.then(set.kind().cmp(&kind)).is_lt()
+    by_name.then_with(|| set.kind().cmp(&kind)).is_lt()
 }
 
 pub fn is_exactly(set: &RecordSet, name: &Name, kind: Kind) -> bool
