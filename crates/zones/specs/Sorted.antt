@@ -54,8 +54,8 @@ is_before_below depth n k s = is_lt (ordering_then (order (drop depth s.name) (d
 abbrev pub is_ahead_below : ℕ → List (List ℕ) → Set → Bool
 is_ahead_below depth n s = is_lt (order (drop depth s.name) (drop depth n))
 
--- sets from low on have names at or behind a name, those from high on behind it; between them its labels above the apex are
--- the same as theirs
+-- only from low to high could sets stand at a name: those before have names before it, those from high on behind it; where
+-- there are any, the name is within the apex
 pub record Narrowed (apex n : List (List ℕ)) (ss : List Set) (low high : ℕ) : Type 0 where
   pub rise : low ≤ high
   pub bound : high ≤ length ss

@@ -12,9 +12,8 @@ ghost use Rattle.zones.specs.Zones.{sets_of};
 use super::SortedSets;
 use names::Name;
 use records::{Kind, RecordSet};
-use std::cmp::Ordering;
 
-// Whether a name stands before another, by their labels from a depth on.
+// Whether a set's name is before another, by the labels from a depth on.
 fn is_ahead(set: &RecordSet, name: &Name, depth: usize) -> bool
     ensures { result ≡ is_ahead_below depth (labels name.now) (set_of set.now) }
 {
@@ -25,11 +24,8 @@ fn is_ahead(set: &RecordSet, name: &Name, depth: usize) -> bool
 fn is_before(set: &RecordSet, name: &Name, kind: Kind, depth: usize) -> bool
     ensures { result ≡ is_before_below depth (labels name.now) kind.number (set_of set.now) }
 {
-    match set.name().compare_below(name, depth) {
-        Ordering::Less => true,
-        Ordering::Equal => set.kind() < kind,
-        Ordering::Greater => false,
-    }
+    let by_name = set.name().compare_below(name, depth);
+    by_name.then_with(|| set.kind().cmp(&kind)).is_lt()
 }
 
 pub fn is_exactly(set: &RecordSet, name: &Name, kind: Kind) -> bool
