@@ -148,13 +148,3 @@ module _ (a : List (List ℕ)) where
   front_order n m h k f =
       sym (order_below a (labels n) (labels m) h k)
       ∙ first_order (drop (length a) (labels n)) (drop (length a) (labels m)) (proper_drop (length a) (labels n) (limits (labels n) (labels_proper n)).labels) (proper_drop (length a) (labels m) (limits (labels m) (labels_proper m)).labels) f
-
-  -- where the fronts x and y differ, they stand to each other as the names do
-  pub front_decides : (n m : Name) (x y : ℕ) (r : Ordering) → within a (labels n) ≡ true → within a (labels m) ≡ true → x ≡ front_below (length a) (labels n) → y ≡ front_below (length a) (labels m) → (x ≡ y → ⊥) → ltb x y ≡ is_lt (ordering_then (order (labels n) (labels m)) r)
-  front_decides n m x y r h k p q d = ⊎_elim below above (cases_lt x y)
-    where
-      below : x < y → ltb x y ≡ is_lt (ordering_then (order (labels n) (labels m)) r)
-      below l = lt-ltb x y l ∙ sym (ap (λ o. is_lt (ordering_then o r)) (front_order n m h k (omega arith)))
-
-      above : y ≤ x → ltb x y ≡ is_lt (ordering_then (order (labels n) (labels m)) r)
-      above l = le-ltb x y l ∙ sym (ap (λ o. is_lt (ordering_then o r)) (order_flip (labels n) (labels m) ∙ ap ordering_reverse (front_order m n k h (omega arith))))

@@ -4,5 +4,5 @@ use Rattle.std.specs.List.{between}
 use Rattle.names.specs.Names.{labels}
 use Rattle.names.specs.declared.name.iter.Labels.{Labels}
 
-unfoldable pub labels_left : Labels → List (List ℕ)
-labels_left l = between l.depths.start l.depths.end (labels l.name.now)
+unfoldable pub labels_ahead : Labels → List (List ℕ)
+labels_ahead l = between l.depths.start l.depths.end (labels l.name.now)

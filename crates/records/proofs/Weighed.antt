@@ -31,22 +31,6 @@ fit_wire ps h =
     let w = wire_total ps in
     omega arith
 
-pub few_addresses : {X : Type 0} (bytes : X → List ℕ) (xs ys : List X) (k : ℕ) → xs ≡ ys → fits k (Addresses (map bytes ys)) ≡ true → length xs ≤ 16
-few_addresses bytes xs ys k e h =
-    let p = and_parts (eqb k 1) (leb (length (map bytes ys)) 16) h in
-    let a = leb-true (length (map bytes ys)) 16 p.1 in
-    let m = length-map ys bytes in
-    let l = ap length e in
-    omega arith
-
-pub few_servers : {X : Type 0} (bytes : X → List ℕ) (xs ys : List X) (k : ℕ) → xs ≡ ys → fits k (Delegated (record { servers = map bytes ys })) ≡ true → length xs ≤ 16
-few_servers bytes xs ys k e h =
-    let p = and_parts (delegates k && leb 1 (length (map bytes ys))) (leb (length (map bytes ys)) 16) h in
-    let a = leb-true (length (map bytes ys)) 16 p.1 in
-    let m = length-map ys bytes in
-    let l = ap length e in
-    omega arith
-
 module _ {X : Type 0} (bytes : X → List ℕ) (xs : List X) where
   -- those so far, and those of the rest
   abbrev pub Weighed : ℕ → ℕ → Type 0

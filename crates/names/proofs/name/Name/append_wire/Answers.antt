@@ -1,5 +1,5 @@
 use Rattle.std.proofs.Common.{vec_items, sym, ap, ◌∙◌}
-use Rattle.names.specs.Iterating.{labels_left}
+use Rattle.names.specs.Iterating.{labels_ahead}
 use Rattle.names.specs.Labels.{proper_labels}
 use Rattle.names.specs.Names.{labels}
 use Rattle.names.proofs.Appending.{none_written, one_written, all_written, first_short}
@@ -10,7 +10,7 @@ use Rattle.names.proofs.name.Name.append_wire.Goals as goal
 pub loop-label-init : goal.loop-label-init
 loop-label-init c =
     let n = c.args.self.now in
-    let all = ap labels_left c.into_iter-label-iterator.ensures.into_iter_gives ∙ c.labels-label-items.ensures in
+    let all = ap labels_ahead c.into_iter-label-iterator.ensures.into_iter_gives ∙ c.labels-label-items.ensures in
     (ap proper_labels all ∙ (limits (labels n) (labels_proper n)).labels, none_written (vec_items c.push.new.self) (labels n) _ all)
 
 pub loop-label-preserved : goal.loop-label-preserved

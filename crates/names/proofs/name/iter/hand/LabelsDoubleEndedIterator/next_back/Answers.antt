@@ -1,13 +1,13 @@
 use Rattle.std.proofs.Common.{[], get_or, length, ap, ◌∙◌, rules, arith}
 use Rattle.std.proofs.lemmas.List.{length_push}
-use Rattle.names.specs.Iterating.{labels_left}
+use Rattle.names.specs.Iterating.{labels_ahead}
 use Rattle.names.specs.Names.{labels}
 use Rattle.names.proofs.Iterating.{last_left, none_left}
 use Rattle.names.proofs.Laws.{count_is}
 use Rattle.names.proofs.name.iter.hand.LabelsDoubleEndedIterator.next_back.Goals as goal
 
 pub returns-in_err-depth-clause-steps : goal.returns-in_err-depth-clause-steps
-unfolding labels_left
+unfolding labels_ahead
 returns-in_err-depth-clause-steps c = search (rules, none_left)
 
 pub label_at-requires : goal.label_at-requires
@@ -18,7 +18,7 @@ label_at-requires c =
     omega (arith, s.1.0, s.1.1, s.1.2)
 
 pub returns-clause-steps : goal.returns-clause-steps
-unfolding labels_left
+unfolding labels_ahead
 returns-clause-steps c =
     let n = c.args.self.now.name.now in
     let d = c.args.self.now.depths in

@@ -1,12 +1,12 @@
 use Rattle.std.proofs.Common.{[], get_or, length, ap, ◌∙◌, rules, arith}
-use Rattle.names.specs.Iterating.{labels_left}
+use Rattle.names.specs.Iterating.{labels_ahead}
 use Rattle.names.specs.Names.{labels}
 use Rattle.names.proofs.Iterating.{first_left, none_left}
 use Rattle.names.proofs.Laws.{count_is}
 use Rattle.names.proofs.name.iter.hand.LabelsIterator.next.Goals as goal
 
 pub returns-in_err-depth-clause-steps : goal.returns-in_err-depth-clause-steps
-unfolding labels_left
+unfolding labels_ahead
 returns-in_err-depth-clause-steps c = search (rules, none_left)
 
 pub label_at-requires : goal.label_at-requires
@@ -17,7 +17,7 @@ label_at-requires c =
     omega (arith, s.1.0, s.1.1, s.1.2)
 
 pub returns-clause-steps : goal.returns-clause-steps
-unfolding labels_left
+unfolding labels_ahead
 returns-clause-steps c =
     let n = c.args.self.now.name.now in
     let d = c.args.self.now.depths in
