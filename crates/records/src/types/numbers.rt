@@ -18,6 +18,7 @@ impl Kind {
 
     pub const ALIAS: Kind = Kind { number: 5 };
 
+    // By a getter and no `From`: a call says which number of the kind is had.
     pub fn number(self) -> u8
         ensures { result ≡ self.number }
     {
@@ -60,6 +61,7 @@ impl TryFrom<u8> for Kind {
 }
 
 impl Serial {
+    // By a getter, as a kind's.
     pub fn number(self) -> u64
         ensures { result ≡ self.number }
     {
