@@ -1,4 +1,4 @@
-use Rattle.std.proofs.Common.{◌∷◌, sym, ap, ◌∙◌}
+use Rattle.std.proofs.Common.{sym, ap, ◌∙◌}
 use Rattle.names.specs.Iterating.{labels_left}
 use Rattle.cache.specs.Hashes.{stirred_all, stirred_name}
 use Rattle.cache.proofs.entry.hash.stir_name.Goals as goal
