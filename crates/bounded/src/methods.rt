@@ -1,5 +1,5 @@
 // Making such a list, reading it, and changing it in place.
-ghost use Rattle.std.specs.Prelude.{◌≡◌, ◌<◌, ◌≤◌, [], ◌∷◌, ◌++◌, length, nat_le, remove, slice_index_or, IfOk, MatchOption, MatchResult};
+ghost use Rattle.std.specs.Prelude.{◌≡◌, ◌<◌, ◌≤◌, ◌⊎◌, [], ◌∷◌, ◌++◌, length, nat_le, insert, remove, slice_index_or, Err, IfOk, IsOk, MatchOption, MatchResult};
 ghost use Rattle.std.specs.Borrow.{sem};
 ghost use Rattle.std.specs.Fn.{CalledAt};
 ghost use Rattle.std.specs.List.Retain.{IsFiltered};
@@ -46,9 +46,20 @@ impl<T, const N: usize> Bounded<T, N> {
         Ok(())
     }
 
-    // The others keep their order.
+    // Before what stands at the place; a full list, or one that ends before the place, hands it back.
+    pub fn insert(&mut self, at: usize, item: T) -> Result<(), T>
+        ensures inserted { length self.old < N → at ≤ length self.old → IsOk result × (self.new ≡ insert self.old at item) }
+        ensures refused { (N ≤ length self.old) ⊎ (length self.old < at) → (result ≡ Err item) × (self.new ≡ self.old) }
+    {
+        if self.is_full() || self.items.len() < at {
+            return Err(item);
+        }
+        self.items.insert(at, item).map_err(|failed| failed.value)
+    }
+
+    // The others keep their order, and there is room again.
     pub fn remove(&mut self, at: usize) -> Option<T>
-        ensures { MatchOption result ((length self.old ≤ at) × (self.new ≡ self.old)) (λ x. (at < length self.old) × (x ≡ slice_index_or self.old at x) × (self.new ≡ remove self.old at)) }
+        ensures { MatchOption result ((length self.old ≤ at) × (self.new ≡ self.old)) (λ x. (at < length self.old) × (x ≡ slice_index_or self.old at x) × (self.new ≡ remove self.old at) × (length self.new < N)) }
     {
         if at >= self.items.len() {
             return None;

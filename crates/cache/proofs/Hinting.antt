@@ -1,12 +1,13 @@
 -- Hints in order, one more, one less, and looked through.
-use Rattle.std.proofs.Common.{◌≡◌, ◌≢◌, ℕ, suc, ◌+◌, ◌<◌, ◌≤◌, Bool, true, false, cond, eqb, ◌⊎◌, List, [], ◌∷◌, ◌++◌, length, get_or, take, drop, MatchOption, Some, None, Option, sym, refl, ap, ◌∙◌, subst, inl, inr, ⊎_elim, true≢false, arith, drop-cons}
+use Rattle.std.proofs.Common.{◌≡◌, ◌≢◌, ℕ, suc, ◌+◌, ◌<◌, ◌≤◌, Bool, true, false, eqb, ◌⊎◌, List, [], ◌∷◌, ◌++◌, length, get_or, take, drop, MatchOption, Some, None, Option, sym, refl, ap, ◌∙◌, subst, inl, inr, ⊎_elim, true≢false, arith, drop-cons}
 use mathlib.Core.List.Memᴰ
 use mathlib.Core.List.{Memᴰ}
 use Rattle.std.specs.List.{insert, remove, AllWithin, HoldsAt}
 use Rattle.std.proofs.lemmas.List.{get_or_default, take-append-drop}
 use Rattle.std.specs.List.Sorted.{IsNonDecreasingBy}
 use Rattle.std.proofs.lemmas.List.Sorted.{IsNonDecreasingBy-from_all_adjacent}
-use Rattle.std.proofs.lemmas.Bool.{and_parts, and_from, eqb-true, eq-eqb, or_cases}
+use Rattle.std.proofs.lemmas.Bool.{and_parts, and_from, eqb-true, eq-eqb, or_cases, cases_lt}
+use Rattle.std.proofs.lemmas.List.Edits.{length-remove, get_or-remove_below, get_or-remove_above}
 use Rattle.protocol.specs.Lists.{any}
 use Rattle.protocol.proofs.Lists.{any_some, some_any}
 use Rattle.cache.specs.declared.index.Hint.{Hint}
@@ -30,8 +31,30 @@ ordered xs h = IsNonDecreasingBy-from_all_adjacent hash_in xs near
 pub far : (xs : List Hint) → Rising xs → (i j : ℕ) → i ≤ j → j < length xs → hash_at xs i ≤ hash_at xs j
 far xs h i j = ordered xs h i j blank
 
-pub was_inserted : (xs ys : List Hint) (p : ℕ) (x : Hint) (b : Bool) → ys ≡ cond b (insert xs p x) xs → b ≡ true → ys ≡ insert xs p x
-was_inserted xs ys p x b e t = e ∙ ap (λ c. cond c (insert xs p x) xs) t
+pub rising_removed : (xs : List Hint) (p : ℕ) → Rising xs → p < length xs → Rising (remove xs p)
+rising_removed xs p h w k l = go (cases_lt (k + 1) p) (cases_lt k p)
+  where
+    n : length (remove xs p) + 1 ≡ length xs
+    n = length-remove xs p w
+
+    go : (k + 1 < p) ⊎ (p ≤ k + 1) → (k < p) ⊎ (p ≤ k) → hash_at (remove xs p) k ≤ hash_at (remove xs p) (k + 1)
+    go (inl a) b =
+        let d = ap hash_in (get_or-remove_below xs p blank k (omega arith) w) in
+        let e = ap hash_in (get_or-remove_below xs p blank (k + 1) a w) in
+        let f = h k (omega arith) in
+        omega arith
+    go (inr a) (inl b) =
+        let m = n in
+        let d = ap hash_in (get_or-remove_below xs p blank k b w) in
+        let e = ap hash_in (get_or-remove_above xs p blank (k + 1) a w) in
+        let f = far xs h k (k + 1 + 1) (omega arith) (omega arith) in
+        omega arith
+    go (inr a) (inr b) =
+        let m = n in
+        let d = ap hash_in (get_or-remove_above xs p blank k b w) in
+        let e = ap hash_in (get_or-remove_above xs p blank (k + 1) a w) in
+        let f = h (k + 1) (omega arith) in
+        omega arith
 
 -- ---- which hints there are
 

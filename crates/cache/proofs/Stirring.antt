@@ -1,11 +1,6 @@
 -- Hashes, byte by byte and label by label.
-use Rattle.std.proofs.Common.{◌≡◌, ℕ, ◌+◌, ◌<◌, ◌≤◌, ◌⊎◌, List, [], ◌∷◌, ◌++◌, length, get_or, drop, Some, sym, refl, ap, ◌∙◌, inl, inr}
-use Rattle.std.specs.List.{slice_get}
-use Rattle.std.proofs.lemmas.List.{drop_more, drop_all}
-use Rattle.std.proofs.lemmas.Option.{slice_get-get_or, slice_get_past}
-use Rattle.std.proofs.lemmas.Bool.{cases_lt}
-use Rattle.protocol.proofs.Lists.{some_is, some_none}
-use Rattle.cache.specs.Hashes.{stirred, stirred_all, stirred_name}
+use Rattle.std.proofs.Common.{◌≡◌, ℕ, List, [], ◌∷◌, ◌++◌, refl}
+use Rattle.cache.specs.Hashes.{stirred, stirred_all}
 
 pub stirred_none : (h : ℕ) → stirred_all h [] ≡ h
 unfolding stirred_all

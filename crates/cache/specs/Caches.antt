@@ -1,5 +1,5 @@
 -- What a `Cache` stands for, and what a call leaves of it.
-use Rattle.std.specs.Prelude.{◌≡◌, ℕ, Bool, false, List, map, Some, None, vec_items, Option}
+use Rattle.std.specs.Prelude.{◌≡◌, ℕ, Bool, false, List, map, Some, None, Option}
 use Rattle.protocol.specs.World as world
 use Rattle.machine.specs.Store as store
 use Rattle.machine.specs.Store.{Put}
@@ -9,7 +9,7 @@ use Rattle.cache.specs.declared.store.put.Stored.TheVariants as rust
 use Rattle.cache.specs.Entries.{entry_of}
 
 abbrev pub entries_of : Cache → List world.Entry
-entries_of c = map entry_of (vec_items c.entries)
+entries_of c = map entry_of c.entries
 
 -- what is due was done, and is what was told; where there was no room, all is as it was
 abbrev pub Puts : Put → List world.Entry → Stored → List world.Entry → Type 0

@@ -1,28 +1,25 @@
 // The cache: entries, no two of one key.
-ghost use Rattle.std.specs.Prelude.{◌≡◌, ◌≤◌, true, map, length, vec_len, vec_capacity};
+ghost use Rattle.std.specs.Prelude.{◌≡◌, true, map, length};
 ghost use Rattle.machine.specs.Store.{one_a_key};
 ghost use Rattle.cache.specs.Entries.{entry_of};
 ghost use Rattle.cache.specs.Hints.{Covers};
-ghost use Rattle.cache.specs.Indexes.{hints_of, room_of};
+ghost use Rattle.cache.specs.Indexes.{hints_of};
 
 use crate::entry::Entry;
 use crate::index::Index;
+use bounded::Bounded;
 
 pub mod find;
 pub mod put;
 
 pub const MAX_ENTRIES: usize = 1024;
 
-// Room for all entries is made at first, so no later call fails for memory.
 #[derive(Drop)]
 pub struct Cache {
-    entries: Vec<Entry>,
+    entries: Bounded<Entry, MAX_ENTRIES>,
     // Where each entry stands, by the hash of its key.
     index: Index,
-    ghost apart: { one_a_key (map entry_of entries.items) ≡ true },
-    ghost few: { vec_len entries ≤ 1024 },
-    ghost room: { 1024 ≤ vec_capacity entries },
-    ghost covered: { Covers (hints_of index) (map entry_of entries.items) },
-    ghost even: { length (hints_of index) ≡ vec_len entries },
-    ghost spare: { 1024 ≤ room_of index },
+    ghost apart: { one_a_key (map entry_of entries) ≡ true },
+    ghost covered: { Covers (hints_of index) (map entry_of entries) },
+    ghost even: { length (hints_of index) ≡ length entries },
 }

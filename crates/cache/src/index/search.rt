@@ -1,19 +1,20 @@
 // Searching the index, which halves, and changing it.
 ghost use Rattle.std.specs.Prelude.{◌≡◌, ℕ, ◌+◌, ◌<◌, ◌≤◌, true, false, [], length, MatchOption, MatchResult, ◌≢◌, ◌==◌, filter};
 ghost use Rattle.names.specs.declared.fault.Fault.TheVariants.{NoMemory};
+ghost use Rattle.machine.specs.Store.{max_entries};
 ghost use Rattle.cache.specs.Hints.{hash_at, place_on, hinted};
-ghost use Rattle.cache.specs.Indexes.{hints_of, room_of};
+ghost use Rattle.cache.specs.Indexes.{hints_of};
 
 use super::{Hint, Index};
+use bounded::Bounded;
 use names::Fault;
 use std::alloc::Global;
 
 impl Index {
-    // Room for so many hints is made at first.
-    pub fn new(heap: Global, room: usize) -> Result<Index, Fault>
-        ensures { MatchResult result (λ x. (hints_of x ≡ []) × (room ≤ room_of x)) (λ f. f ≡ NoMemory) }
+    pub fn new(heap: Global) -> Result<Index, Fault>
+        ensures { MatchResult result (λ x. hints_of x ≡ []) (λ f. f ≡ NoMemory) }
     {
-        let hints = Vec::with_capacity(heap, room)?;
+        let hints = Bounded::new(heap)?;
         Ok(Index { hints })
     }
 
@@ -23,25 +24,26 @@ impl Index {
         ensures below { (k : ℕ) → k < result → hash_at (hints_of self.now) k < hash }
         ensures above { (k : ℕ) → result ≤ k → k < length (hints_of self.now) → hash ≤ hash_at (hints_of self.now) k }
     {
-        self.hints.partition_point(|hint| hint.hash < hash)
+        self.hints
+            .as_slice()
+            .partition_point(|hint| hint.hash < hash)
     }
 
     // The hints of a hash, which stand side by side.
     pub fn of_hash(&self, hash: u64) -> &[Hint]
         ensures { result.now ≡ filter (λ x. x.hash == hash) (hints_of self.now) }
     {
-        let hints = &self.hints[self.first(hash)..];
+        let hints = &self.hints.as_slice()[self.first(hash)..];
         let count = hints.iter().take_while(|hint| hint.hash == hash).count();
         &hints[..count]
     }
 
     // One hint more, where there is room.
     pub fn insert(&mut self, hash: u64, place: usize)
-        requires { length (hints_of self.old) < room_of self.old }
+        requires { length (hints_of self.old) < max_entries }
         ensures there { hinted hash place (hints_of self.new) ≡ true }
         ensures others { (h i : ℕ) → hinted h i (hints_of self.old) ≡ true → hinted h i (hints_of self.new) ≡ true }
         ensures len { length (hints_of self.new) ≡ length (hints_of self.old) + 1 }
-        ensures room { room_of self.old ≤ room_of self.new }
     {
         let at = self.first(hash);
         let _ = self.hints.insert(at, Hint { hash, place });
@@ -51,7 +53,10 @@ impl Index {
     fn position(&self, place: usize) -> Option<usize>
         ensures { MatchOption result (((h : ℕ) → hinted h place (hints_of self.now) ≡ false)) (λ k. (k < length (hints_of self.now)) × (place_on (hints_of self.now) k ≡ place)) }
     {
-        self.hints.iter().position(|hint| hint.place == place)
+        self.hints
+            .as_slice()
+            .iter()
+            .position(|hint| hint.place == place)
     }
 
     // Without a hint of a place that has one.
@@ -59,7 +64,7 @@ impl Index {
         requires { (h : ℕ) × (hinted h place (hints_of self.old) ≡ true) }
         ensures others { (h i : ℕ) → (i ≢ place) → hinted h i (hints_of self.old) ≡ true → hinted h i (hints_of self.new) ≡ true }
         ensures len { length (hints_of self.new) + 1 ≡ length (hints_of self.old) }
-        ensures room { room_of self.new ≡ room_of self.old }
+        ensures room { length (hints_of self.new) < max_entries }
     {
         if let Some(at) = self.position(place) {
             self.hints.remove(at);

@@ -10,10 +10,11 @@ ghost use Rattle.machine.specs.Store.{place_of};
 ghost use Rattle.cache.specs.Entries.{entry_of, rules};
 ghost use Rattle.cache.specs.Caches.{entries_of, key_at, onto};
 
-use super::{Cache, MAX_ENTRIES};
+use super::Cache;
 use crate::entry::{Entry, Key};
 use crate::index::Index;
 use crate::word::Moment;
+use bounded::Bounded;
 use names::Fault;
 use std::alloc::Global;
 
@@ -21,22 +22,22 @@ impl Cache {
     pub fn new(heap: Global) -> Result<Cache, Fault>
         ensures { MatchResult result (λ c. entries_of c ≡ []) (λ f. f ≡ NoMemory) }
     {
-        let entries = Vec::with_capacity(heap, MAX_ENTRIES)?;
-        let index = Index::new(heap, MAX_ENTRIES)?;
+        let entries = Bounded::new(heap)?;
+        let index = Index::new(heap)?;
         Ok(Cache { entries, index })
     }
 
     pub fn len(&self) -> usize
         ensures { result ≡ length (entries_of self.now) }
     {
-        self.entries.len()
+        self.entries.as_slice().len()
     }
 
     // The entry at a place.
     pub fn get(&self, place: usize) -> Option<&Entry>
         ensures { option_map (λ e. entry_of e.now) result ≡ slice_get (entries_of self.now) place }
     {
-        self.entries.get(place)
+        self.entries.as_slice().get(place)
     }
 
     // Whether the entry at a place has a key.
@@ -60,7 +61,7 @@ impl Cache {
         ensures place { IfSome result (λ p. slice_get (entries_of self.now) p.0 ≡ Some (entry_of p.1.now)) }
     {
         let place = self.find(key)?;
-        let entry = &self.entries[place];
+        let entry = &self.entries.as_slice()[place];
         entry.counts(moment).then_some((place, entry))
     }
 

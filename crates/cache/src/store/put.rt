@@ -25,7 +25,7 @@ impl Cache {
     fn soonest(&self, used: &[bool]) -> Option<usize>
         ensures { result ≡ soonest_by rules used.now (entries_of self.now) }
     {
-        let entries = self.entries.iter().zip(used).enumerate();
+        let entries = self.entries.as_slice().iter().zip(used).enumerate();
         let free = entries.filter(|(_, (_, used))| !**used);
         let turns = free.map(|(place, (entry, _))| (entry.turn(), place));
         turns.min().map(|(_, place)| place)
@@ -36,7 +36,7 @@ impl Cache {
         requires { Some place ≡ place_of (is_key (entry_of entry).apex (entry_of entry).name (entry_of entry).kind) (entries_of self.old) }
         ensures { entries_of self.new ≡ slice_set (entries_of self.old) place (entry_of entry) }
     {
-        self.entries[place] = entry;
+        self.entries.as_mut_slice()[place] = entry;
     }
 
     // One entry more, of a key that none has.
@@ -44,8 +44,9 @@ impl Cache {
         requires { (None ≡ place_of (is_key (entry_of entry).apex (entry_of entry).name (entry_of entry).kind) (entries_of self.old)) × (length (entries_of self.old) < max_entries) }
         ensures { entries_of self.new ≡ entries_of self.old ++ entry_of entry ∷ [] }
     {
-        self.index.insert(entry.key.hash(), self.entries.len());
-        self.entries.push_reserved(entry);
+        let place = self.len();
+        self.index.insert(entry.key.hash(), place);
+        let _ = self.entries.push(entry);
     }
 
     // In the place of an entry of another key, where none has this key.
@@ -55,7 +56,7 @@ impl Cache {
     {
         self.index.remove(place);
         self.index.insert(entry.key.hash(), place);
-        self.entries[place] = entry;
+        self.entries.as_mut_slice()[place] = entry;
     }
 
     // Puts an entry in: in the place of the one of its key, else at the end, else in the place of the one that runs

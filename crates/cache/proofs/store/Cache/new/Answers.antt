@@ -7,8 +7,7 @@ pub invariant_of-result : goal.invariant_of-result
 unfolding one_a_key
 invariant_of-result c =
     let m = c.in_ok-entries.ensures in
-    let n = c.in_ok-index.ensures in
-    let l = ap length n.0 in
-    let k = ap (λ xs. length (map entry_of xs)) m.items in
-    let z = m.len in
-    record { apart = ap (λ xs. one_a_key (map entry_of xs)) m.items; few = omega arith; room = m.capacity; covered = λ i g. absurd (omega arith); even = omega arith; spare = n.1 }
+    let l = ap length c.in_ok-index.ensures in
+    let k = ap (λ xs. length (map entry_of xs)) m in
+    let z = ap length m in
+    record { apart = ap (λ xs. one_a_key (map entry_of xs)) m; covered = λ i g. absurd (omega arith); even = omega arith }

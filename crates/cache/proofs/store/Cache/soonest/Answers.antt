@@ -1,4 +1,4 @@
-use Rattle.std.proofs.Common.{◌≡◌, ℕ, Bool, not, vec_items, ap, ◌∙◌, rules, tests}
+use Rattle.std.proofs.Common.{◌≡◌, ℕ, Bool, not, ap, ◌∙◌, rules, tests}
 use Rattle.std.proofs.lemmas.Iterator.{YieldsList-from_slice, YieldsList-from_zip, YieldsList-from_map}
 use Rattle.std.proofs.lemmas.Iterator.Consumers.{YieldsList-at, YieldsList-from_enumerate, YieldsList-from_filter, reduce_from_yields_List}
 use Rattle.std.specs.Option.{option_map}
@@ -9,7 +9,7 @@ use Rattle.cache.proofs.store.Cache.soonest.Goals as goal
 
 pub returns : goal.returns
 returns c =
-    let xs = vec_items c.args.self.now.entries in
+    let xs = c.args.self.now.entries in
     let us = c.args.used.now in
     let least = reduce_from_yields_List _ _ c.min.result c.min.ensures.ran
     (YieldsList-from_map _ (λ (p : ℕ × (Entry × Bool)). (turn_of (entry_of p.1.0), p.0))
