@@ -38,7 +38,7 @@ impl Plan {
     }
 }
 
-// The last digit alone: a number printed into a text of its own would have to be allocated.
+// The last digit alone. Not printed: four digits of any number want `% 10_000` and a slice around the label.
 fn digit(number: u64) -> u8 {
     b'0' + (number % 10) as u8
 }
@@ -68,17 +68,12 @@ fn put(zone: &mut Zone, name: Name, kind: Kind, content: Data) -> Result<(), Fau
 }
 
 fn addresses(heap: Global) -> Result<Vec<Address>, Fault> {
-    let mut one = Vec::new(heap);
-    one.push(Address([0, 0, 0, 0, 0, 0, 0, 9]))?;
-    Ok(one)
+    Ok(vec![in heap; Address([0, 0, 0, 0, 0, 0, 0, 9])]?)
 }
 
 fn text(heap: Global) -> Result<Vec<Vec<u8>>, Fault> {
-    let mut piece = Vec::new(heap);
-    piece.push(b't')?;
-    let mut pieces = Vec::new(heap);
-    pieces.push(piece)?;
-    Ok(pieces)
+    let piece = vec![in heap; b't']?;
+    Ok(vec![in heap; piece]?)
 }
 
 fn put_all(heap: Global, zone: &mut Zone, plan: &Plan) -> Result<(), Fault> {
@@ -109,6 +104,7 @@ fn put_all(heap: Global, zone: &mut Zone, plan: &Plan) -> Result<(), Fault> {
     Ok(())
 }
 
+// With the times of the sample zones of `valley`: programs share no crate of their own.
 pub fn zone(heap: Global, plan: &Plan) -> Result<Zone, Fault> {
     let serial = Serial::try_from(1)?;
     let times = Times {

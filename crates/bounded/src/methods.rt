@@ -29,10 +29,17 @@ impl<T, const N: usize> Bounded<T, N> {
         self.items.as_mut_slice()
     }
 
+    pub fn len(&self) -> usize
+        ensures value { result ≡ length self.now }
+        ensures few { result ≤ N }
+    {
+        self.items.len()
+    }
+
     pub fn is_full(&self) -> bool
         ensures { result ≡ nat_le N (length self.now) }
     {
-        N <= self.items.len()
+        N <= self.len()
     }
 
     // At the end; a full list hands it back.
@@ -51,7 +58,7 @@ impl<T, const N: usize> Bounded<T, N> {
         ensures inserted { length self.old < N → at ≤ length self.old → IsOk result × (self.new ≡ insert self.old at item) }
         ensures refused { (N ≤ length self.old) ⊎ (length self.old < at) → (result ≡ Err item) × (self.new ≡ self.old) }
     {
-        if self.is_full() || self.items.len() < at {
+        if self.is_full() || self.len() < at {
             return Err(item);
         }
         self.items.insert(at, item).map_err(|failed| failed.value)
@@ -61,7 +68,7 @@ impl<T, const N: usize> Bounded<T, N> {
     pub fn remove(&mut self, at: usize) -> Option<T>
         ensures { MatchOption result ((length self.old ≤ at) × (self.new ≡ self.old)) (λ x. (at < length self.old) × (x ≡ slice_index_or self.old at x) × (self.new ≡ remove self.old at) × (length self.new < N)) }
     {
-        if at >= self.items.len() {
+        if at >= self.len() {
             return None;
         }
         Some(self.items.remove(at))

@@ -1,5 +1,7 @@
--- Fronts that differ decide the order of names; and the step of the loop that packs one.
-use Rattle.std.proofs.Common.{◌≡◌, min, ◌++◌, take, ℕ, zero, suc, ◌+◌, ◌-◌, ◌*◌, ◌<◌, ◌≤◌, true, ◌&&◌, ltb, leb, ◌⊎◌, List, [], ◌∷◌, length, get_or, drop, Ordering, Less, Equal, Greater, sym, refl, ap, ◌∙◌, inl, inr, ⊎_elim, true≢false, arith}
+-- Fronts that differ decide the order of names; and how one is packed.
+use Rattle.std.specs.List.{slice_get}
+use Rattle.std.specs.Option.{option_map}
+use Rattle.std.proofs.Common.{◌≡◌, Some, None, Option, MatchOption, min, ◌++◌, take, ℕ, zero, suc, ◌+◌, ◌-◌, ◌*◌, ◌<◌, ◌≤◌, true, ◌&&◌, ltb, leb, ◌⊎◌, List, [], ◌∷◌, length, get_or, drop, Ordering, Less, Equal, Greater, sym, refl, ap, ◌∙◌, inl, inr, ⊎_elim, true≢false, arith}
 use Rattle.std.specs.Cmp.{ranks}
 use Rattle.std.specs.Int.{from_be_bytes, w64}
 use Rattle.std.proofs.lemmas.Grind.{common_steps}
@@ -148,3 +150,22 @@ module _ (a : List (List ℕ)) where
   front_order n m h k f =
       sym (order_below a (labels n) (labels m) h k)
       ∙ first_order (drop (length a) (labels n)) (drop (length a) (labels m)) (proper_drop (length a) (labels n) (limits (labels n) (labels_proper n)).labels) (proper_drop (length a) (labels m) (limits (labels m) (labels_proper m)).labels) f
+
+-- ---- the front of the label that is found at a depth, or of none
+
+none_front : (ls : List (List ℕ)) (i : ℕ) → slice_get ls i ≡ None → 0 ≡ front_below i ls
+unfolding front_below
+none_front [] zero e = refl
+none_front [] (suc i) e = refl
+none_front (l ∷ ls) zero e = let w : ◌≡◌ {A = ℕ} 0 1 = cc in absurd (omega arith)
+none_front (l ∷ ls) (suc i) e = none_front ls i e
+
+some_front : (ls : List (List ℕ)) (i : ℕ) (l : List ℕ) → slice_get ls i ≡ Some l → front l ≡ front_below i ls
+unfolding front_below
+some_front [] i l e = let w : ◌≡◌ {A = ℕ} 0 1 = cc in absurd (omega arith)
+some_front (m ∷ ls) zero l e = let w : m ≡ l = cc in ap front (sym w)
+some_front (m ∷ ls) (suc i) l e = some_front ls i l e
+
+pub front_found : {A : Type 0} (now : A → List ℕ) (ls : List (List ℕ)) (i : ℕ) (o : Option A) (n : ℕ) (P : A → Type 0) → option_map now o ≡ slice_get ls i → MatchOption o (n ≡ 0) P → ((x : A) → P x → n ≡ front (now x)) → n ≡ front_below i ls
+front_found now ls i None n P e h by = h ∙ none_front ls i (sym e)
+front_found now ls i (Some x) n P e h by = by x h ∙ some_front ls i (now x) (sym e)

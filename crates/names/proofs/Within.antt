@@ -1,4 +1,4 @@
--- When one name lies within another: laws, and the step of the loop that finds out.
+-- When one name lies within another: laws.
 use Rattle.std.proofs.Common.{◌≡◌, ℕ, nat_eq, true, ◌&&◌, ◌⊎◌, List, [], ◌∷◌, ◌++◌, length, Decides, take, sym, refl, ap, ◌∙◌, inl, inr, ⊎_elim, true≢false, arith}
 use Rattle.std.specs.Cmp.Lexicographic.{pointwise, pointwise_decides, bytes_decides}
 use Rattle.std.proofs.lemmas.Bool.{and_parts, and_from}

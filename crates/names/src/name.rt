@@ -23,7 +23,8 @@ pub const MAX_WRITTEN: usize = 255;
 pub struct Name {
     // The bytes of the labels, one label behind the other.
     bytes: [u8; MAX_WRITTEN],
-    // Where each label ends. Sixteen ends and a count beside them: the project wants names that own no heap memory.
+    // Where each label ends. Sixteen ends with a count beside them, and no `ArrayVec`, which is not `Copy`: names are plain
+    // values.
     ends: [u8; MAX_LABELS],
     count: u8,
     ghost counted: { count ≤ length ends },

@@ -8,7 +8,7 @@ pub const MOST_COUNTED: u8 = 64;
 
 #[derive(Clone, Copy)]
 pub struct Tried {
-    // The word: the zone that was asked, and for which name; its kind is the question's.
+    // The word: the zone that was asked, and for which name. The kind counts for nothing: a question has one.
     pub key: Key,
     pub count: u8,
     // The place of the last server among those named, and the last query.

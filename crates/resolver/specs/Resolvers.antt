@@ -46,10 +46,10 @@ standing_for roots es (stands.Done x) = machine.Done (answer_for es x.answer) x.
 standing_for roots es (stands.Awaits key) = machine.Awaits (labels key.apex) (labels key.name)
 standing_for roots es (stands.Wants w) = machine.Wants (labels w.key.apex) (labels w.key.name) (servers_at roots es w.referral) (one_tried w.tried)
 
--- a query that is wanted is for this kind
+-- a query that is wanted, or waited for, is for this kind
 abbrev pub WantsKind : ℕ → Standing → Type 0
 WantsKind k (stands.Done x) = ⊤
-WantsKind k (stands.Awaits key) = ⊤
+WantsKind k (stands.Awaits key) = key.kind.number ≡ k
 WantsKind k (stands.Wants w) = w.key.kind.number ≡ k
 
 -- a query's try counted for a question, by what the cache has at a moment

@@ -16,6 +16,7 @@ pub const MAX_WALKS: usize = 16;
 #[derive(Drop)]
 pub struct Resolver {
     moment: Moment,
+    // No call changes them, and each says so: a clause on the state says nothing of what isn't in it.
     roots: Vec<Address>,
     pending: PendingTable,
     cache: Cache,

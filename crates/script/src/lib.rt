@@ -34,17 +34,22 @@ pub enum Command {
 fn place(word: &[u8], most: u64) -> Option<u64>
     ensures { result ≡ place_in most word.now }
 {
-    number(word).filter(|n| *n >= 1 && *n <= most)
+    number(word).filter(|n| (1..=most).contains(n))
 }
 
 fn read_kind(word: &[u8]) -> Result<Kind, Fault>
     ensures { kind_given result ≡ kind_in word.now }
 {
-    let number = number(word).and_then(|n| u8::try_from(n).ok());
-    Kind::try_from(number.ok_or(Fault::BadName)?)
+    // Here and below a reader's answer is taken apart by `let .. else`, as the project wants it, and not by `ok_or` and `?`.
+    let Some(number) = number(word) else {
+        return Err(Fault::BadName);
+    };
+    let Ok(number) = u8::try_from(number) else {
+        return Err(Fault::BadName);
+    };
+    Kind::try_from(number)
 }
 
-// Here and below a reader's answer is taken apart by `let .. else`, as everywhere in this project, and not by `ok_or` and `?`.
 fn read_tick(mut words: Words) -> Result<Command, Fault>
     ensures { Reads (tick_of (words_left words.entry)) result }
 {

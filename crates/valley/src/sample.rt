@@ -21,9 +21,7 @@ fn put(zone: &mut Zone, name: &[u8], kind: Kind, ttl: u32, content: Data) -> Res
 }
 
 fn address(heap: Global, last: u8) -> Result<Vec<Address>, Fault> {
-    let mut addresses = Vec::new(heap);
-    addresses.push(Address([0, 0, 0, 0, 0, 0, 0, last]))?;
-    Ok(addresses)
+    Ok(vec![in heap; Address([0, 0, 0, 0, 0, 0, 0, last])]?)
 }
 
 fn delegate(heap: Global, zone: &mut Zone, name: &[u8], server: u8) -> Result<(), Fault> {
@@ -82,9 +80,5 @@ fn lowerton(heap: Global) -> Result<Zone, Fault> {
 }
 
 pub fn zones(heap: Global) -> Result<Vec<Zone>, Fault> {
-    let mut zones = Vec::new(heap);
-    zones.push(root(heap)?)?;
-    zones.push(upperton(heap)?)?;
-    zones.push(lowerton(heap)?)?;
-    Ok(zones)
+    Ok(vec![in heap; root(heap)?, upperton(heap)?, lowerton(heap)?]?)
 }

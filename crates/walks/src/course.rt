@@ -19,7 +19,7 @@ use records::Kind;
 
 #[derive(Clone, Copy)]
 pub enum Ending {
-    // The entry at this place ends the walk.
+    // The entry at this place ends the walk. A place and no reference: the cache is changed while answers are kept.
     Shows(usize),
     // The word of this key is lacking.
     Lacks(Key),
@@ -37,7 +37,8 @@ pub struct Course {
     pub trace: Trace,
 }
 
-// The walk of a question by what the cache has at a moment.
+// The walk of a question by what the cache has at a moment. Name and kind go by themselves: what holds both elsewhere has a
+// ticket too, or a zone.
 pub fn walk(cache: &Cache, moment: Moment, name: &Name, kind: Kind) -> Course
     ensures course { (roots : List Server) → course_for roots (entries_of cache.now) result ≡ course_of (rules_of roots) moment.0 (entries_of cache.now) (labels name.now) kind.number }
     ensures words { map (slice_get (entries_of cache.now)) (places_of result.trace) ≡ map Some (shown_by rules moment.0 (entries_of cache.now) (labels name.now) kind.number).words }

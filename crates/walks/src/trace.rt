@@ -8,7 +8,7 @@ pub const MAX_STEPS: usize = 24;
 
 #[derive(Clone, Copy)]
 pub struct Trace {
-    // With a count beside it: an `ArrayVec` is not `Copy`, and a course is a plain value that is copied.
+    // With a count beside it: an `ArrayVec` is not `Copy`, as traces and courses are for their callers.
     places: [usize; MAX_STEPS],
     count: usize,
     ghost bounded: { count ≤ 24 },

@@ -11,12 +11,16 @@ pub mod build;
 pub mod reply;
 pub mod search;
 
+// In its searches name and kind go by themselves: no caller has the two as one value without more in it.
 #[derive(Drop)]
 pub struct SortedSets {
+    // What is put in is asked to be within it: the zone, which refuses the rest, has seen that. `Cuts` has its own, so that each
+    // of the two says for itself what it keeps.
     apex: Name,
     // Strictly in order.
     sets: Vec<RecordSet>,
-    // The front of each set's name below the apex: a search by names alone misses the aim of docs/BENCHMARKS.md.
+    // The front of each set's name below the apex, in a list of its own, since a zone shows its sets as a slice. A search by
+    // names alone misses the aim of docs/BENCHMARKS.md.
     fronts: Vec<u64>,
     ghost ordered: { sorted (map set_of sets.items) ≡ true },
     ghost inside: { all_within (labels apex) (map set_of sets.items) ≡ true },

@@ -1,12 +1,12 @@
 // Making a cache, and looking into it.
-ghost use Rattle.std.specs.Prelude.{◌≡◌, ◌<◌, [], length, IfSome, MatchResult};
+ghost use Rattle.std.specs.Prelude.{◌≡◌, ◌<◌, ◌≤◌, [], length, IfSome, MatchResult};
 ghost use Rattle.std.specs.List.{slice_get};
 ghost use Rattle.std.specs.Option.{option_map};
 ghost use Rattle.names.specs.declared.fault.Fault.TheVariants.{NoMemory};
 ghost use Rattle.names.specs.Names.{labels};
 ghost use Rattle.protocol.specs.World.{is_key};
 ghost use Rattle.protocol.specs.Walks.{remembered};
-ghost use Rattle.machine.specs.Store.{place_of};
+ghost use Rattle.machine.specs.Store.{max_entries, place_of};
 ghost use Rattle.cache.specs.Entries.{entry_of, rules};
 ghost use Rattle.cache.specs.Caches.{entries_of, key_at, onto};
 
@@ -28,9 +28,10 @@ impl Cache {
     }
 
     pub fn len(&self) -> usize
-        ensures { result ≡ length (entries_of self.now) }
+        ensures value { result ≡ length (entries_of self.now) }
+        ensures few { result ≤ max_entries }
     {
-        self.entries.as_slice().len()
+        self.entries.len()
     }
 
     // The entry at a place.

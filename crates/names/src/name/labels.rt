@@ -24,7 +24,7 @@ fn are_label_bytes(bytes: &[u8]) -> bool
 fn is_label(label: &[u8]) -> bool
     ensures { result ≡ proper_label label.now }
 {
-    label.len() >= 1 && label.len() <= MAX_LABEL && are_label_bytes(label)
+    (1..=MAX_LABEL).contains(&label.len()) && are_label_bytes(label)
 }
 
 impl Name {
@@ -69,11 +69,7 @@ impl Name {
     pub fn label(&self, depth: usize) -> Option<&[u8]>
         ensures { option_map (λ x. x.now) result ≡ slice_get (labels self.now) depth }
     {
-        if depth < self.label_count() {
-            Some(self.label_at(depth))
-        } else {
-            None
-        }
+        (depth < self.label_count()).then(|| self.label_at(depth))
     }
 
     // One label more, below all others; a refusal leaves the name as it was.

@@ -42,11 +42,7 @@ impl Name {
     pub fn front_below(&self, depth: usize) -> u64
         ensures { result ≡ front_below depth (labels self.now) }
     {
-        if depth < self.label_count() {
-            front_of(self.label_at(depth))
-        } else {
-            0
-        }
+        self.label(depth).map_or(0, |label| front_of(label))
     }
 }
 

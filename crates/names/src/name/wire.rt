@@ -44,7 +44,7 @@ impl<'a> Reader<'a> {
         ensures value { given result ≡ name_read (read_wire (unread self.old)) }
         ensures rest { unread self.new ≡ rest_read (read_wire (unread self.old)) (unread self.old) }
     {
-        // Here and below an answer is taken apart by `let .. else`, as everywhere in this project.
+        // Here and below a reader's answer is taken apart by `let .. else`, as the project wants it.
         let [count, bytes @ ..] = self.rest else {
             return Err(Fault::Malformed);
         };

@@ -1,8 +1,8 @@
 // Making a question, and what it asks.
-ghost use Rattle.std.specs.Prelude.{◌≡◌, length, MatchResult};
+ghost use Rattle.std.specs.Prelude.{◌≡◌, ◌≤◌, length, MatchResult};
 ghost use Rattle.names.specs.declared.fault.Fault.TheVariants.{NoMemory};
 ghost use Rattle.names.specs.Names.{labels};
-ghost use Rattle.machine.specs.Machine.{question};
+ghost use Rattle.machine.specs.Machine.{max_words, question};
 ghost use Rattle.questions.specs.Tries.{question_of, tries_of};
 
 use super::{Question, Request};
@@ -28,8 +28,9 @@ impl Question {
 
     // How many words it needed so far.
     pub fn tries_len(&self) -> usize
-        ensures { result ≡ length (tries_of self.now) }
+        ensures value { result ≡ length (tries_of self.now) }
+        ensures few { result ≤ max_words }
     {
-        self.tries.as_slice().len()
+        self.tries.len()
     }
 }

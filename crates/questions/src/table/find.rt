@@ -1,5 +1,5 @@
 // Making a table, and looking into it.
-ghost use Rattle.std.specs.Prelude.{◌≡◌, [], length, map, MatchResult, ◌==◌, nat_le};
+ghost use Rattle.std.specs.Prelude.{◌≡◌, ◌≤◌, [], length, map, MatchResult, ◌==◌, nat_le};
 ghost use Rattle.std.specs.List.{slice_get};
 ghost use Rattle.std.specs.Option.{option_map};
 ghost use Rattle.names.specs.declared.fault.Fault.TheVariants.{NoMemory};
@@ -33,9 +33,10 @@ impl PendingTable {
     }
 
     pub fn len(&self) -> usize
-        ensures { result ≡ length (table_of self.now) }
+        ensures value { result ≡ length (table_of self.now) }
+        ensures few { result ≤ max_pending }
     {
-        self.as_slice().len()
+        self.queries.len()
     }
 
     pub fn is_full(&self) -> bool

@@ -10,7 +10,8 @@ use cache::Key;
 
 impl Tried {
     pub fn first(pending: &Pending) -> Tried
-        ensures { tried_for result ≡ tried_first (labels pending.now.query.key.apex) (labels pending.now.query.key.name) pending.now.place pending.now.query.id.0 }
+        ensures value { tried_for result ≡ tried_first (labels pending.now.query.key.apex) (labels pending.now.query.key.name) pending.now.place pending.now.query.id.0 }
+        ensures key { result.key ≡ pending.now.query.key }
     {
         Tried {
             key: pending.query.key,
@@ -22,7 +23,8 @@ impl Tried {
 
     // A query is counted as one more try of the word, unless it was counted last.
     pub fn again(self, pending: &Pending) -> Tried
-        ensures { tried_for result ≡ tried_again pending.now.place pending.now.query.id.0 (tried_for self) }
+        ensures value { tried_for result ≡ tried_again pending.now.place pending.now.query.id.0 (tried_for self) }
+        ensures key { result.key ≡ self.key }
     {
         if pending.has_id(self.id) {
             return self;
@@ -36,7 +38,7 @@ impl Tried {
         tried
     }
 
-    // The kind is not compared: all tries of a question are for its own.
+    // The kind is not compared: a question has one.
     pub fn is_word(&self, key: &Key) -> bool
         ensures { result ≡ is_word (labels key.now.apex) (labels key.now.name) (tried_for self.now) }
     {

@@ -86,8 +86,7 @@ impl Data {
     {
         match self {
             Data::Addresses(addresses) => addresses_len(addresses.as_slice()),
-            Data::Texts(pieces) => pieces_len(pieces.as_slice()),
-            Data::Others(pieces) => pieces_len(pieces.as_slice()),
+            Data::Texts(pieces) | Data::Others(pieces) => pieces_len(pieces.as_slice()),
             Data::Alias(name) => 1 + name.written_len(),
             Data::Delegation(to) => addresses_len(to.servers.as_slice()),
         }

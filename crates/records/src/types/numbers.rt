@@ -18,7 +18,7 @@ impl Kind {
 
     pub const ALIAS: Kind = Kind { number: 5 };
 
-    // By a getter and no `From`: a call says which number of the kind is had.
+    // A getter, and no `From`: `kind.number()` reads plainer than `u8::from(kind)`.
     pub fn number(self) -> u8
         ensures { result ≡ self.number }
     {
@@ -52,7 +52,7 @@ impl TryFrom<u8> for Kind {
     ghost try_from_gives = { λ n r. kind_given r ≡ kind_of n };
 
     fn try_from(number: u8) -> Result<Kind, Fault> {
-        if number >= 1 && number <= 31 {
+        if (1..=31).contains(&number) {
             Ok(Kind { number })
         } else {
             Err(Fault::BadName)
@@ -61,7 +61,7 @@ impl TryFrom<u8> for Kind {
 }
 
 impl Serial {
-    // By a getter, as a kind's.
+    // A getter, as a kind's.
     pub fn number(self) -> u64
         ensures { result ≡ self.number }
     {

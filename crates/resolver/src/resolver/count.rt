@@ -13,8 +13,8 @@ use cache::{Cache, Moment};
 use questions::{Pending, Question};
 use walks::{Ending, walk};
 
-// Whether a question's walk lacks the word of a query. Cache and moment go by themselves, since the resolver's walks are changed
-// meanwhile.
+// Whether a question's walk lacks the word of a query. Not of the resolver, whose walks are lent to be changed meanwhile; and a
+// value of cache and moment would hold a borrow, and be made for each call.
 fn lacks_word(cache: &Cache, moment: Moment, question: &Question, pending: &Pending) -> bool
     ensures { result ≡ lacks_for (pending_of pending.now) (question_of question.now).kind (shown_by rules moment.0 (entries_of cache.now) (question_of question.now).name (question_of question.now).kind).end }
 {

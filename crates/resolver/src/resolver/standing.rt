@@ -20,7 +20,7 @@ use walks::{Ending, walk};
 fn count_of(tried: Option<Tried>) -> usize
     ensures { result ≡ count_of (one_tried tried) }
 {
-    tried.map_or(0, |tried| tried.count as usize)
+    tried.map_or(0, |tried| usize::from(tried.count))
 }
 
 // Each named server was asked twice.
@@ -34,7 +34,7 @@ fn is_exhausted(servers: &[Address], tried: Option<Tried>) -> bool
 fn is_last(tried: Option<Tried>, pending: &Pending) -> bool
     ensures { result ≡ is_last (one_tried tried) (pending_of pending.now) }
 {
-    tried.is_some_and(|tried| tried.id == pending.query.id)
+    tried.is_some_and(|tried| pending.has_id(tried.id))
 }
 
 impl Resolver {

@@ -50,8 +50,7 @@ impl SortedSets {
         requires asked { within (labels self.now.apex) (labels name.now) ≡ true }
         ensures { speaker_of result ≡ undelegated (labels name.now) kind.number (sets_of self.now) }
     {
-        let (low, high) = self.narrow_within(name);
-        let at = self.place_between(low, high, name, kind);
+        let at = self.place_between(self.narrow_within(name), name, kind);
         let here = self.reply_at(at, name, kind);
         if here.is_data() || at == 0 {
             return here;

@@ -12,6 +12,7 @@ ghost use Rattle.zones.specs.Zones.{sets_of};
 use super::SortedSets;
 use names::Name;
 use records::{Kind, RecordSet};
+use std::ops::Range;
 
 // Whether a set's name is before another, by the labels from a depth on.
 fn is_ahead(set: &RecordSet, name: &Name, depth: usize) -> bool
@@ -37,24 +38,24 @@ pub fn is_exactly(set: &RecordSet, name: &Name, kind: Kind) -> bool
 impl SortedSets {
     // From where to where sets could stand at a name within the apex: those before have names before it, those behind have
     // names behind it. Only between the two, where the fronts are mostly the same, do labels have to be compared.
-    pub fn narrow_within(&self, name: &Name) -> (usize, usize)
+    pub fn narrow_within(&self, name: &Name) -> Range<usize>
         requires { within (labels self.now.apex) (labels name.now) ≡ true }
-        ensures { Narrowed (labels self.now.apex) (labels name.now) (sets_of self.now) result.0 result.1 }
+        ensures { Narrowed (labels self.now.apex) (labels name.now) (sets_of self.now) result.start result.end }
     {
         let sought = name.front_below(self.apex.label_count());
         let fronts = self.fronts.as_slice();
         let low = fronts.partition_point(|front| *front < sought);
         // Most fronts stand alone, so a look at the next one saves a second search.
         if fronts.len() - low < 2 || fronts[low + 1] != sought {
-            return (low, fronts.len().min(low + 1));
+            return low..fronts.len().min(low + 1);
         }
         let alike = fronts[low..].partition_point(|front| *front == sought);
-        (low, low + alike)
+        low..low + alike
     }
 
     // The same of any name: outside the apex it stands before all sets, or behind them.
-    fn narrow(&self, name: &Name) -> (usize, usize)
-        ensures { Narrowed (labels self.now.apex) (labels name.now) (sets_of self.now) result.0 result.1 }
+    fn narrow(&self, name: &Name) -> Range<usize>
+        ensures { Narrowed (labels self.now.apex) (labels name.now) (sets_of self.now) result.start result.end }
     {
         if name.is_within(&self.apex) {
             return self.narrow_within(name);
@@ -64,18 +65,19 @@ impl SortedSets {
         } else {
             self.sets.len()
         };
-        (at, at)
+        at..at
     }
 
-    // How many sets stand before a name and kind, where sets could stand at the name only from low to high.
-    pub fn place_between(&self, low: usize, high: usize, name: &Name, kind: Kind) -> usize
-        requires { Narrowed (labels self.now.apex) (labels name.now) (sets_of self.now) low high }
+    // How many sets stand before a name and kind, where sets could stand at the name only at these places.
+    pub fn place_between(&self, places: Range<usize>, name: &Name, kind: Kind) -> usize
+        requires { Narrowed (labels self.now.apex) (labels name.now) (sets_of self.now) places.start places.end }
         ensures value { result ≡ place (labels name.now) kind.number (sets_of self.now) }
         ensures bound { result ≤ length (sets_of self.now) }
     {
         let depth = self.apex.label_count();
-        let between = &self.sets.as_slice()[low..high];
-        low + between.partition_point(|set| is_before(set, name, kind, depth))
+        let start = places.start;
+        let between = &self.sets.as_slice()[places];
+        start + between.partition_point(|set| is_before(set, name, kind, depth))
     }
 
     // How many sets stand before a name and kind.
@@ -83,18 +85,18 @@ impl SortedSets {
         ensures value { result ≡ place (labels name.now) kind.number (sets_of self.now) }
         ensures bound { result ≤ length (sets_of self.now) }
     {
-        let (low, high) = self.narrow(name);
-        self.place_between(low, high, name, kind)
+        self.place_between(self.narrow(name), name, kind)
     }
 
     // How many sets have names before a name.
     fn first_at(&self, name: &Name) -> usize
         ensures { result ≡ place (labels name.now) 0 (sets_of self.now) }
     {
-        let (low, high) = self.narrow(name);
+        let places = self.narrow(name);
         let depth = self.apex.label_count();
-        let alike = &self.sets.as_slice()[low..high];
-        low + alike.partition_point(|set| is_ahead(set, name, depth))
+        let start = places.start;
+        let alike = &self.sets.as_slice()[places];
+        start + alike.partition_point(|set| is_ahead(set, name, depth))
     }
 
     // The set of a name and kind.

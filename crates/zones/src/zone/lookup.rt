@@ -41,8 +41,7 @@ impl Zone {
         }
     }
 
-    // Nothing is said of a name that isn't within the apex. Here and in searches name and kind go by themselves: a value of both
-    // would be made for one call alone.
+    // Nothing is said of a name that isn't within the apex.
     pub fn lookup(&self, name: &Name, kind: Kind) -> Option<Reply<'_>>
         ensures { option_map speaker_of result ≡ says (zone_of self.now) (labels name.now) kind.number }
     {

@@ -30,4 +30,4 @@ returns-in-None c =
     let a = labels query.key.apex in
     let p = labels query.key.name in
     let self = c.args.self.now in
-    counts_pushed tried_for a p c.args.pending.now.place query.id.0 (question_of self) self.tries c.push.new.self c.first.result c.push.result c.push.ensures (lacks (is_word a p) (tries_of self) c.in-None.ensures) c.first.ensures
+    counts_pushed tried_for a p c.args.pending.now.place query.id.0 (question_of self) self.tries c.push.new.self c.first.result c.push.result c.push.ensures (lacks (is_word a p) (tries_of self) c.in-None.ensures) c.first.ensures.value

@@ -15,4 +15,4 @@ returns c d =
     let l = length-set c.as_mut_slice-tries.result.now c.args.at c.again.result in
     let e = ap length lent in
     ap (λ ts. with_tries (map tried_for ts) (question_of self)) (written_all self.tries after (omega arith) ∙ ap (λ ts. set ts c.args.at c.again.result) lent)
-    ∙ ap (λ ts. with_tries ts (question_of self)) (counted_again tried_for self.tries pending.place pending.query.id.0 c.args.at c.index-tries-at.result c.again.result (omega arith) (c.index-tries-at.is ∙ ap (λ ts. get_or ts c.args.at c.index-tries-at.result) lent) c.again.ensures d)
+    ∙ ap (λ ts. with_tries ts (question_of self)) (counted_again tried_for self.tries pending.place pending.query.id.0 c.args.at c.index-tries-at.result c.again.result (omega arith) (c.index-tries-at.is ∙ ap (λ ts. get_or ts c.args.at c.index-tries-at.result) lent) c.again.ensures.value d)

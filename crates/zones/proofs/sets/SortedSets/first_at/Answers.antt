@@ -15,8 +15,8 @@ returns c =
     let e : xs ≡ vec_items s.sets = c.as_slice.ensures.value in
     let o = subst (λ zs. sorted (map set_of zs) ≡ true) (sym e) s.ordered in
     let i = subst (λ zs. all_within a (map set_of zs) ≡ true) (sym e) s.inside in
-    let r = subst (λ zs. Narrowed a n (map set_of zs) c.narrow-low.result.0 c.narrow-low.result.1) (sym e) c.narrow-low.ensures in
+    let r = subst (λ zs. Narrowed a n (map set_of zs) c.narrow-places.result.start c.narrow-places.result.end) (sym e) c.narrow-places.ensures in
     let p = c.partition_point.ensures.partitioned (λ x. is_ahead_below c.label_count-depth.result n (set_of x)) (always_returns_same _ _ _ (λ x r f k. search (rules, of_calls)))
-    (placed_part set_of a n 0 xs o i c.narrow-low.result.0 c.narrow-low.result.1 r (is_ahead_below c.label_count-depth.result n) (ahead_agrees a n c.label_count-depth.result c.label_count-depth.ensures)) in
-    placed_at set_of a n 0 xs o i c.narrow-low.result.0 c.narrow-low.result.1 r (is_ahead_below c.label_count-depth.result n) (ahead_agrees a n c.label_count-depth.result c.label_count-depth.ensures) c.partition_point.result c.partition_point.ensures.bound p
+    (placed_part set_of a n 0 xs o i c.narrow-places.result.start c.narrow-places.result.end r (is_ahead_below c.label_count-depth.result n) (ahead_agrees a n c.label_count-depth.result c.label_count-depth.ensures)) in
+    placed_at set_of a n 0 xs o i c.narrow-places.result.start c.narrow-places.result.end r (is_ahead_below c.label_count-depth.result n) (ahead_agrees a n c.label_count-depth.result c.label_count-depth.ensures) c.partition_point.result c.partition_point.ensures.bound p
     ∙ ap (λ zs. place n 0 (map set_of zs)) e

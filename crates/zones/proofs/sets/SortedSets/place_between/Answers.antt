@@ -15,8 +15,8 @@ returns-clause-value c =
     let e : xs ≡ vec_items s.sets = c.as_slice.ensures.value in
     let o = subst (λ zs. sorted (map set_of zs) ≡ true) (sym e) s.ordered in
     let i = subst (λ zs. all_within a (map set_of zs) ≡ true) (sym e) s.inside in
-    let r = subst (λ zs. Narrowed a n (map set_of zs) c.args.low c.args.high) (sym e) c.requires in
+    let r = subst (λ zs. Narrowed a n (map set_of zs) c.args.places.start c.args.places.end) (sym e) c.requires in
     let p = c.partition_point.ensures.partitioned (λ x. is_before_below c.label_count-depth.result n c.args.kind.number (set_of x)) (always_returns_same _ _ _ (λ x r f k. search (rules, of_calls)))
-    (placed_part set_of a n c.args.kind.number xs o i c.args.low c.args.high r (is_before_below c.label_count-depth.result n c.args.kind.number) (before_agrees a n c.args.kind.number c.label_count-depth.result c.label_count-depth.ensures)) in
-    placed_at set_of a n c.args.kind.number xs o i c.args.low c.args.high r (is_before_below c.label_count-depth.result n c.args.kind.number) (before_agrees a n c.args.kind.number c.label_count-depth.result c.label_count-depth.ensures) c.partition_point.result c.partition_point.ensures.bound p
+    (placed_part set_of a n c.args.kind.number xs o i c.args.places.start c.args.places.end r (is_before_below c.label_count-depth.result n c.args.kind.number) (before_agrees a n c.args.kind.number c.label_count-depth.result c.label_count-depth.ensures)) in
+    placed_at set_of a n c.args.kind.number xs o i c.args.places.start c.args.places.end r (is_before_below c.label_count-depth.result n c.args.kind.number) (before_agrees a n c.args.kind.number c.label_count-depth.result c.label_count-depth.ensures) c.partition_point.result c.partition_point.ensures.bound p
     ∙ ap (λ zs. place n c.args.kind.number (map set_of zs)) e
