@@ -22,6 +22,11 @@ show '1 numbers for kinds' find_in '\bkind: u(8|64)\b|_KIND\b|: u8 = [45];|kind(
 show '1 a flag for a refusal, or beside a value' find_in 'good: bool|mut good|&mut self.*\) -> bool'
 show '1 nothing handed on as nothing, without ?' after_else 'return None'
 show '1 a reader that has nothing, without ?' after_else 'return Err'
+taken_apart() {
+    after_else ' +(None|false)$'
+    find_in 'else \{ None \}|\bNone => (None|false|true|0|Err|return)|Err\(_?[a-z]*\) => Err\('
+}
+show '1 an Option or a Result taken apart and put together' taken_apart
 show '1 own enums' find_in '^(pub )?enum '
 show '2 functions of one name or one work' find_in 'fn (position|find_exact|is_before|same_label|is_same|same_name|addresses_len|pieces_len|report|print_fault|by_id|for_word)\b|MAX_STEPS: '
 show '3 loops' find_in '\bwhile |for [a-z_]+ in \(?[a-z0-9_.()]+\.\.'
