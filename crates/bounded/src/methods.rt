@@ -17,7 +17,8 @@ impl<T, const N: usize> Bounded<T, N> {
     }
 
     pub fn as_slice(&self) -> &[T]
-        ensures { result.now ≡ self.now }
+        ensures value { result.now ≡ self.now }
+        ensures few { length result.now ≤ N }
     {
         self.items.as_slice()
     }

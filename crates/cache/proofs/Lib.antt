@@ -1,6 +1,6 @@
 mod Places
 mod Recalled
-mod Soonest
+pub mod Soonest
 mod Storing
 mod Stirring
 mod Hinting

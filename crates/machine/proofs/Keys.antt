@@ -36,7 +36,7 @@ so_key e f k =
 pub key_self : (e : Entry) → of_key e e ≡ true
 key_self e = so_key e e (record { apex_is = refl; name_is = refl; kind_is = refl })
 
-key_turn : (e f : Entry) → of_key e f ≡ true → of_key f e ≡ true
+pub key_turn : (e f : Entry) → of_key e f ≡ true → of_key f e ≡ true
 key_turn e f h = let k = key_so e f h in so_key f e (record { apex_is = sym k.apex_is; name_is = sym k.name_is; kind_is = sym k.kind_is })
 
 key_join : (d e f : Entry) → of_key d e ≡ true → of_key d f ≡ true → of_key e f ≡ true

@@ -3,3 +3,5 @@ mod Asking
 mod Counting
 mod Drawing
 mod Ticking
+mod Using
+mod Hearing

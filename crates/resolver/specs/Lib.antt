@@ -1,2 +1,3 @@
 pub mod Resolvers
 pub mod Draws
+pub mod Hears

@@ -3,6 +3,9 @@
 
 mod answer;
 mod resolver;
+mod response;
 
 pub use answer::{Answer, Outcome, Shown};
+pub use resolver::hear::Heard;
 pub use resolver::{MAX_WALKS, Resolver};
+pub use response::Response;

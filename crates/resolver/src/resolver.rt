@@ -7,6 +7,7 @@ use records::Address;
 pub mod ask;
 pub mod count;
 pub mod draw;
+pub mod hear;
 pub mod standing;
 pub mod tick;
 

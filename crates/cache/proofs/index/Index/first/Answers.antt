@@ -7,7 +7,7 @@ use Rattle.cache.proofs.index.Index.first.Goals as goal
 pub returns : goal.returns
 returns c =
     let xs = c.as_slice.result.now in
-    let e = c.as_slice.ensures in
+    let e = c.as_slice.ensures.value in
     let parted = IsPartitionedBy-ltb hash_in xs c.args.hash (ordered xs (subst Rising (sym e) c.args.self.now.rising)) in
     let point = IsPartitionPoint-from_clause (λ x. ltb (hash_in x) c.args.hash) xs _ c.partition_point.ensures.partitioned parted (λ a r q k. search rules) in
     let low = point.0 in

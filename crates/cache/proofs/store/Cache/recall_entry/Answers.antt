@@ -14,7 +14,7 @@ within c =
     let self = c.args.self.now in
     let key = c.args.key.now in
     let w = key_within entry_of self.entries (counts times c.args.moment.0) (labels key.apex) (labels key.name) key.kind.number self.apart c.in_ok-place.place c.in_ok-place.ensures in
-    let e = ap length c.as_slice.ensures in
+    let e = ap length c.as_slice.ensures.value in
     omega arith
 
 pub offset_bounds-as_slice-place : goal.offset_bounds-as_slice-place
@@ -35,7 +35,7 @@ returns-clause-entry c =
     let key = c.args.key.now in
     ap (option_map (λ p. entry_of p.1.now)) c.then_some.ensures
     ∙ recalled_of entry_of self.entries (counts times c.args.moment.0) (labels key.apex) (labels key.name) key.kind.number self.apart c.in_ok-place.place c.in_ok-place.ensures
-    (λ p. p.1.now) _ (c.index-as_slice-place.is ∙ ap (λ es. get_or es c.in_ok-place.place c.index-as_slice-place.result) c.as_slice.ensures) c.counts.result c.counts.ensures
+    (λ p. p.1.now) _ (c.index-as_slice-place.is ∙ ap (λ es. get_or es c.in_ok-place.place c.index-as_slice-place.result) c.as_slice.ensures.value) c.counts.result c.counts.ensures
 
 pub returns-clause-place : goal.returns-clause-place
 returns-clause-place c =
@@ -43,4 +43,4 @@ returns-clause-place c =
     let key = c.args.key.now in
     subst (λ o. IfSome o (λ p. slice_get (entries_of self) p.0 ≡ Some (entry_of p.1.now))) (sym c.then_some.ensures)
     (placed_of entry_of self.entries (counts times c.args.moment.0) (labels key.apex) (labels key.name) key.kind.number self.apart c.in_ok-place.place c.in_ok-place.ensures
-    (λ p. p.1.now) _ (c.index-as_slice-place.is ∙ ap (λ es. get_or es c.in_ok-place.place c.index-as_slice-place.result) c.as_slice.ensures) (λ p. p.0) refl c.counts.result)
+    (λ p. p.1.now) _ (c.index-as_slice-place.is ∙ ap (λ es. get_or es c.in_ok-place.place c.index-as_slice-place.result) c.as_slice.ensures.value) (λ p. p.0) refl c.counts.result)

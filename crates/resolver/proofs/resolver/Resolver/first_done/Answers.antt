@@ -13,8 +13,8 @@ loop-place-preserved c =
     let place = c.loop-place.place in
     let q = c.question-item.result in
     let m = length-map self.walks question_of in
-    let k = ap length c.as_slice-question-items.ensures in
-    not_this (rules_for self) (state_of self) (map question_of self.walks) place (question_of q) (omega arith) (read_at question_of self.walks place q (omega arith) (c.question-item.is ∙ ap (λ ws. get_or ws place q) c.as_slice-question-items.ensures) (question_of q))
+    let k = ap length c.as_slice-question-items.ensures.value in
+    not_this (rules_for self) (state_of self) (map question_of self.walks) place (question_of q) (omega arith) (read_at question_of self.walks place q (omega arith) (c.question-item.is ∙ ap (λ ws. get_or ws place q) c.as_slice-question-items.ensures.value) (question_of q))
     (ap is_done (sym c.standing.ensures.standing) ∙ not_done (roots_of self) (entries_of self.cache) c.standing.result c.in_default.not-Done) c.loop-place.invariant
 
 pub returns-in-Done : goal.returns-in-Done
@@ -24,8 +24,8 @@ returns-in-Done c =
     let q = c.question-item.result in
     let us = map question_of self.walks in
     let m = length-map self.walks question_of in
-    let k = ap length c.as_slice-question-items.ensures in
-    let r = read_at question_of self.walks place q (omega arith) (c.question-item.is ∙ ap (λ ws. get_or ws place q) c.as_slice-question-items.ensures) in
+    let k = ap length c.as_slice-question-items.ensures.value in
+    let r = read_at question_of self.walks place q (omega arith) (c.question-item.is ∙ ap (λ ws. get_or ws place q) c.as_slice-question-items.ensures.value) in
     let outcome = c.in-Done.outcome in
     let answer = answer_for (entries_of self.cache) outcome.answer in (
       omega arith,
@@ -38,5 +38,5 @@ pub returns : goal.returns
 returns c =
     let self = c.args.self.now in
     let m = length-map self.walks question_of in
-    let k = ap length c.as_slice-question-items.ensures in
+    let k = ap length c.as_slice-question-items.ensures.value in
     none_done (rules_for self) (state_of self) (map question_of self.walks) c.loop-place.place (omega arith) c.loop-place.invariant
