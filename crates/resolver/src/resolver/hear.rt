@@ -1,11 +1,15 @@
 // A response is heard: its word is remembered, and its query is pending no more.
-ghost use Rattle.std.specs.Prelude.{◌≡◌, ◌≤◌, false, map, length};
+ghost use Rattle.std.specs.Prelude.{◌≡◌, ◌≤◌, false, map, length, None, Ok, Err, MatchResult, nat_eq};
+ghost use Rattle.protocol.specs.Lists.{first};
 ghost use Rattle.protocol.specs.World.{entry_for};
 ghost use Rattle.cache.specs.Caches.{entries_of};
 ghost use Rattle.cache.specs.Entries.{entry_of, word_of};
-ghost use Rattle.machine.specs.Machine.{max_walks, hear, in_use};
-ghost use Rattle.questions.specs.Queries.{query_of};
-ghost use Rattle.resolver.specs.Hears.{response_of, Hears};
+ghost use Rattle.machine.specs.Machine as machine;
+ghost use Rattle.machine.specs.Machine.{max_walks, in_use, heard_by, hear_fit, hear_for, hear};
+ghost use Rattle.machine.specs.Store.{put};
+ghost use Rattle.questions.specs.Queries.{pending_of, query_of};
+ghost use Rattle.questions.specs.Tables.{table_of};
+ghost use Rattle.resolver.specs.Hears.{response_of, ousts, Hears};
 ghost use Rattle.resolver.specs.Resolvers.{roots_of, rules_for, state_of};
 
 use super::Resolver;
@@ -13,7 +17,7 @@ use crate::response::Response;
 use crate::response::fitting::check;
 use cache::{Entry, MAX_ENTRIES, Moment, Numbers, Stored, Word};
 use names::Fault;
-use questions::Query;
+use questions::{Pending, Query};
 use walks::walk;
 
 // What was forgotten for a word that is remembered.
@@ -55,31 +59,44 @@ impl Resolver {
         }
     }
 
+    // The query that a response answers.
+    fn answered(&self, response: &Response) -> Result<Pending, Fault>
+        ensures { MatchResult result (λ p. hear_for (rules_for self.now) (state_of self.now) (response_of response.now) (first (λ (x : machine.Pending). nat_eq x.query.id response.now.id.0) (table_of self.now.pending)) ≡ hear_fit (rules_for self.now) (state_of self.now) (pending_of p) (word_of response.now.word) None) (λ f. hear_for (rules_for self.now) (state_of self.now) (response_of response.now) (first (λ (x : machine.Pending). nat_eq x.query.id response.now.id.0) (table_of self.now.pending)) ≡ Err f) }
+    {
+        let pending = self.pending.by_id(response.id).ok_or(Fault::NotPending)?;
+        if pending.query.key.apex != response.apex {
+            return Err(Fault::WrongApex);
+        }
+        check(&pending.query, &response.word.said)?;
+        Ok(pending)
+    }
+
+    // The word of a pending query is remembered, and the query is closed.
+    fn remember(&mut self, pending: &Pending, word: Word) -> Heard
+        ensures done { heard_by (rules_for self.old) (state_of self.old) (pending_of pending.now) (put (rules_for self.old) (in_use (rules_for self.old) (state_of self.old)) (entry_for self.old.moment.0 (pending_of pending.now).query (word_of word)) (entries_of self.old.cache)) ≡ Ok (record { state = state_of self.new; ousted = ousts result }) }
+        ensures roots { roots_of self.new ≡ roots_of self.old }
+    {
+        let mut flags = [false; MAX_ENTRIES];
+        let used = &mut flags[..self.cache.len()];
+        self.mark_used(used);
+        // Counted while the word is lacking still.
+        self.count_tries(pending);
+        self.pending.close(pending.query.id);
+        let entry = entry_for(self.moment, &pending.query, word);
+        match self.cache.put(entry, used) {
+            Stored::Kept => Heard::Kept,
+            Stored::Ousted => Heard::Ousted,
+            // The walks under way go by far fewer words than are remembered.
+            Stored::NoRoom => unreachable!(),
+        }
+    }
+
     // A refused response changes nothing.
     pub fn hear(&mut self, response: Response) -> Result<Heard, Fault>
         ensures done { Hears (hear (rules_for self.old) (response_of response) (state_of self.old)) (state_of self.old) result (state_of self.new) }
         ensures roots { roots_of self.new ≡ roots_of self.old }
     {
-        let pending = self
-            .pending
-            .by_id(response.id)
-            .ok_or(Fault::NotPending)?;
-        if pending.query.key.apex != response.apex {
-            return Err(Fault::WrongApex);
-        }
-        check(&pending.query, &response.word.said)?;
-        let mut flags = [false; MAX_ENTRIES];
-        let used = &mut flags[..self.cache.len()];
-        self.mark_used(used);
-        // Counted while the word is lacking still.
-        self.count_tries(&pending);
-        self.pending.close(pending.query.id);
-        let entry = entry_for(self.moment, &pending.query, response.word);
-        match self.cache.put(entry, used) {
-            Stored::Kept => Ok(Heard::Kept),
-            Stored::Ousted => Ok(Heard::Ousted),
-            // The walks under way go by far fewer words than are remembered.
-            Stored::NoRoom => unreachable!(),
-        }
+        let pending = self.answered(&response)?;
+        Ok(self.remember(&pending, response.word))
     }
 }
