@@ -5,3 +5,4 @@ mod Drawing
 mod Ticking
 mod Using
 mod Hearing
+mod Running

@@ -1,3 +1,4 @@
 pub mod Resolvers
 pub mod Draws
 pub mod Hears
+pub mod Runs

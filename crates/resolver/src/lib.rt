@@ -1,6 +1,8 @@
 // The resolver: questions are walked by what is remembered, and what is lacking is asked for.
 #![tactic(auto)]
 
+ghost use Rattle.resolver.specs.Runs.{RunsRefine};
+
 mod answer;
 mod resolver;
 mod response;
@@ -9,3 +11,9 @@ pub use answer::{Answer, Outcome, Shown};
 pub use resolver::hear::Heard;
 pub use resolver::{MAX_WALKS, Resolver};
 pub use response::Response;
+
+// Any sequence of calls of a resolver, where ids were never drawn before and what is heard was said, is the resolver's part of
+// a run of the world: so what it shows is fresh, and what is meant where owners rest.
+pub fn runs_refine()
+    ensures { RunsRefine }
+{}

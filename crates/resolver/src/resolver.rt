@@ -8,6 +8,7 @@ pub mod ask;
 pub mod count;
 pub mod draw;
 pub mod hear;
+pub mod parts;
 pub mod standing;
 pub mod tick;
 

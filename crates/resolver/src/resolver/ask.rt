@@ -1,5 +1,5 @@
 // Questions begin, and end where they are done.
-ghost use Rattle.std.specs.Prelude.{◌≡◌, ◌+◌, ◌<◌, ◌++◌, map, take, drop, Some, None, length, MatchOption, MatchResult, slice_index_or};
+ghost use Rattle.std.specs.Prelude.{◌≡◌, ◌+◌, ◌<◌, [], ◌++◌, map, take, drop, Some, None, length, IfOk, MatchOption, MatchResult, slice_index_or};
 ghost use Rattle.std.specs.Option.{option_map};
 ghost use Rattle.names.specs.declared.fault.Fault.TheVariants.{NoMemory};
 ghost use Rattle.names.specs.Names.{labels};
@@ -8,6 +8,7 @@ ghost use Rattle.cache.specs.Caches.{entries_of};
 ghost use Rattle.machine.specs.Machine as machine;
 ghost use Rattle.machine.specs.Machine.{first_state, question, begin, settle, settle_in, shown_as};
 ghost use Rattle.resolver.specs.Resolvers.{roots_of, rules_for, state_of, shown_for, answer_for};
+ghost use Rattle.resolver.specs.Runs.{Runs, GoesOn, Keeps, KeepsIfOk};
 
 use super::Resolver;
 use crate::answer::{Outcome, Shown, Standing};
@@ -21,7 +22,8 @@ use std::alloc::Global;
 impl Resolver {
     // One that remembers nothing, and knows the root's servers.
     pub fn new(heap: Global, roots: Vec<Address>) -> Result<Resolver, Fault>
-        ensures { MatchResult result (λ x. (state_of x ≡ first_state) × (roots_of x ≡ map bytes_of roots.items)) (λ f. f ≡ NoMemory) }
+        ensures made { MatchResult result (λ x. (state_of x ≡ first_state) × (roots_of x ≡ map bytes_of roots.items)) (λ f. f ≡ NoMemory) }
+        ensures runs { IfOk result (λ x. Runs x []) }
     {
         let pending = PendingTable::new(heap)?;
         let cache = Cache::new(heap)?;
@@ -39,9 +41,14 @@ impl Resolver {
     pub fn ask(&mut self, heap: Global, request: Request) -> Result<Option<Shown>, Fault>
         ensures done { MatchResult result (λ o. (option_map (shown_for (entries_of self.old.cache)) o ≡ (begin (rules_for self.old) (question request.ticket (labels request.name) request.kind.number) (state_of self.old)).shown) × (state_of self.new ≡ (begin (rules_for self.old) (question request.ticket (labels request.name) request.kind.number) (state_of self.old)).state)) (λ f. (f ≡ NoMemory) × (state_of self.new ≡ state_of self.old)) }
         ensures roots { roots_of self.new ≡ roots_of self.old }
+        ensures runs { GoesOn self.old self.new }
+        ensures promise { KeepsIfOk self.old result }
     {
         if self.walks.is_full() {
             let outcome = Outcome::NOWHERE;
+            return Ok(Some(Shown { request, outcome }));
+        }
+        if let Some(outcome) = self.recalled(&request) {
             return Ok(Some(Shown { request, outcome }));
         }
         let question = Question::new(heap, request)?;
@@ -69,6 +76,8 @@ impl Resolver {
         ensures shown { option_map (shown_for (entries_of self.old.cache)) result ≡ (settle (rules_for self.old) (state_of self.old)).shown }
         ensures state { state_of self.new ≡ (settle (rules_for self.old) (state_of self.old)).state }
         ensures roots { roots_of self.new ≡ roots_of self.old }
+        ensures runs { GoesOn self.old self.new }
+        ensures promise { Keeps self.old result }
     {
         let (place, outcome) = self.first_done()?;
         let question = self.walks.remove(place)?;

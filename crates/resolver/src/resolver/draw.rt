@@ -8,6 +8,7 @@ ghost use Rattle.machine.specs.Machine.{place_for, draw};
 ghost use Rattle.questions.specs.Queries.{pending_of};
 ghost use Rattle.resolver.specs.Resolvers.{roots_of, rules_for, state_of, one_tried};
 ghost use Rattle.resolver.specs.Draws.{wanting, wanting_for, Draws};
+ghost use Rattle.resolver.specs.Runs.{GoesOnAsking};
 
 use super::Resolver;
 use crate::answer::{Standing, Wanted};
@@ -44,6 +45,7 @@ impl Resolver {
     pub fn draw(&mut self, id: QueryId) -> Result<Option<Query>, Fault>
         ensures done { Draws (draw (rules_for self.old) id.0 (state_of self.old)) (state_of self.old) result (state_of self.new) }
         ensures roots { roots_of self.new ≡ roots_of self.old }
+        ensures runs { GoesOnAsking self.old id.0 result self.new }
     {
         if self.pending.by_id(id).is_some() {
             return Err(Fault::Malformed);

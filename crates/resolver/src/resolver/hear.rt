@@ -11,6 +11,7 @@ ghost use Rattle.questions.specs.Queries.{pending_of, query_of};
 ghost use Rattle.questions.specs.Tables.{table_of};
 ghost use Rattle.resolver.specs.Hears.{response_of, ousts, Hears};
 ghost use Rattle.resolver.specs.Resolvers.{roots_of, rules_for, state_of};
+ghost use Rattle.resolver.specs.Runs.{GoesOnHearing};
 
 use super::Resolver;
 use crate::response::Response;
@@ -95,6 +96,7 @@ impl Resolver {
     pub fn hear(&mut self, response: Response) -> Result<Heard, Fault>
         ensures done { Hears (hear (rules_for self.old) (response_of response) (state_of self.old)) (state_of self.old) result (state_of self.new) }
         ensures roots { roots_of self.new ≡ roots_of self.old }
+        ensures runs { GoesOnHearing self.old (response_of response) result self.new }
     {
         let pending = self.answered(&response)?;
         Ok(self.remember(&pending, response.word))

@@ -1,19 +1,19 @@
 // Where a question stands: done, waiting for a pending query, or wanting one to be sent.
-ghost use Rattle.std.specs.Prelude.{◌≡◌, map};
+ghost use Rattle.std.specs.Prelude.{◌≡◌, ℕ, map, IfSome};
 ghost use Rattle.names.specs.Names.{labels};
 ghost use Rattle.records.specs.Contents.{bytes_of};
 ghost use Rattle.cache.specs.Caches.{entries_of};
-ghost use Rattle.machine.specs.Machine.{count_of, exhausted, is_last, lacking, standing, tried_of, pending_for};
+ghost use Rattle.machine.specs.Machine.{count_of, exhausted, is_last, lacking, question, standing, tried_of, pending_for, Done};
 ghost use Rattle.questions.specs.Tries.{question_of, tries_of, tried_for};
 ghost use Rattle.questions.specs.Queries.{pending_of};
 ghost use Rattle.questions.specs.Tables.{table_of};
 ghost use Rattle.walks.specs.Ways.{servers_at};
-ghost use Rattle.resolver.specs.Resolvers.{roots_of, rules_for, state_of, standing_for, one_tried, WantsKind};
+ghost use Rattle.resolver.specs.Resolvers.{roots_of, rules_for, state_of, answer_for, standing_for, one_tried, WantsKind};
 
 use super::Resolver;
 use crate::answer::{Answer, Outcome, Standing, Wanted};
 use cache::{Key, Said};
-use questions::{Pending, Question, Tried};
+use questions::{Pending, Question, Request, Tried};
 use records::Address;
 use walks::{Ending, walk};
 
@@ -69,6 +69,22 @@ impl Resolver {
                 tried,
             }),
         }
+    }
+
+    // How a question ends, where the cache has all its words.
+    pub fn recalled(&self, request: &Request) -> Option<Outcome>
+        ensures { IfSome result (λ o. (t : ℕ) → Done (answer_for (entries_of self.now.cache) o.answer) o.left ≡ standing (rules_for self.now) (state_of self.now) (question t (labels request.now.name) request.now.kind.number)) }
+    {
+        let course = walk(&self.cache, self.moment, &request.name, request.kind);
+        let answer = match course.ending {
+            Ending::Shows(place) => Answer::At(place),
+            Ending::TooLong => Answer::TooLong,
+            Ending::Lacks(_) => return None,
+        };
+        Some(Outcome {
+            answer,
+            left: course.least,
+        })
     }
 
     // What it wants is of its own kind.

@@ -1,9 +1,11 @@
 // A second passes: queries run out, and count for those that came to wait for them later.
-ghost use Rattle.std.specs.Prelude.{◌≡◌, ◌+◌, not, if◌then◌else◌, is_some, IfSome, nat_lt};
+ghost use Rattle.std.specs.Prelude.{◌≡◌, ◌+◌, not, List, ◌∷◌, if◌then◌else◌, is_some, IfSome, nat_lt};
 ghost use Rattle.protocol.specs.Lists.{kept};
+ghost use Rattle.protocol.specs.World.{Event, Tick};
 ghost use Rattle.cache.specs.Entries.{rules};
 ghost use Rattle.machine.specs.Machine.{is_open, count_all, with_walks, tick};
 ghost use Rattle.resolver.specs.Resolvers.{roots_of, rules_for, state_of};
+ghost use Rattle.resolver.specs.Runs.{Runs};
 
 use super::Resolver;
 use super::count::count_each;
@@ -28,6 +30,7 @@ impl Resolver {
         ensures moment { IfSome result (λ m. m.0 ≡ (state_of self.new).now) }
         ensures state { state_of self.new ≡ (if is_some result then tick (rules_for self.old) (state_of self.old) else state_of self.old) }
         ensures roots { roots_of self.new ≡ roots_of self.old }
+        ensures runs { (es : List Event) → Runs self.old es → Runs self.new (if is_some result then Tick ∷ es else es) }
     {
         let next = Moment(self.moment.0.checked_add(1)?);
         self.count_expired(next);

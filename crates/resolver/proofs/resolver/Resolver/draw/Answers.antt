@@ -1,4 +1,4 @@
-use Rattle.std.proofs.Common.{None, sym, refl, is_ok}
+use Rattle.std.proofs.Common.{Some, None, Ok, sym, refl, is_ok}
 use Rattle.names.specs.Names.{labels}
 use Rattle.cache.specs.Caches.{entries_of}
 use Rattle.questions.specs.Queries.{pending_of}
@@ -7,6 +7,7 @@ use Rattle.machine.specs.Machine.{send}
 use Rattle.walks.specs.Ways.{servers_at}
 use Rattle.resolver.specs.Resolvers.{roots_of, rules_for, state_of, one_tried}
 use Rattle.resolver.proofs.Drawing.{pending_if, draw_refused, draw_full, draw_none, draw_sends, has_servers, added}
+use Rattle.resolver.proofs.Running.{drawn_goes}
 use Rattle.resolver.proofs.resolver.Resolver.draw.Goals as goal
 
 pub returns-then-is_some-clause-done : goal.returns-then-is_some-clause-done
@@ -44,3 +45,6 @@ returns-clause-done c =
       added (rules_for self) (state_of self) x (state_of c.count_tries.new.self) (table_of c.add.new.self) (is_ok c.add.result) c.count_tries.ensures.state c.add.ensures.told c.add.ensures.table (sym c.if-is_full.ensures),
       refl,
     )
+
+pub returns-clause-runs : goal.returns-clause-runs
+returns-clause-runs c = drawn_goes c.args.self.now (record { moment = c.count_tries.new.self.moment; roots = c.count_tries.new.self.roots; pending = c.add.new.self; cache = c.count_tries.new.self.cache; walks = c.count_tries.new.self.walks }) c.args.id.0 (Ok (Some c.query_for-pending.result.query)) c.count_tries.ensures.roots (returns-clause-done c)

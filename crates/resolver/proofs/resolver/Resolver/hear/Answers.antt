@@ -3,6 +3,7 @@ use Rattle.std.proofs.lemmas.Result.{err_from_is_err_and}
 use Rattle.resolver.specs.Hears.{response_of, ousts, Hears}
 use Rattle.resolver.specs.Resolvers.{rules_for, state_of}
 use Rattle.resolver.proofs.Hearing.{heard_is}
+use Rattle.resolver.proofs.Running.{heard_goes}
 use Rattle.resolver.proofs.resolver.Resolver.hear.Goals as goal
 
 pub returns-in_err-pending-clause-done : goal.returns-in_err-pending-clause-done
@@ -15,3 +16,6 @@ pub returns-clause-done : goal.returns-clause-done
 returns-clause-done c =
     let self = c.args.self.now in
     heard_is (rules_for self) (response_of c.args.response) (state_of self) _ (c.in_ok-pending.ensures ∙ c.remember.ensures.done)
+
+pub returns-clause-runs : goal.returns-clause-runs
+returns-clause-runs c = heard_goes c.args.self.now _ (response_of c.args.response) (Ok c.remember.result) c.remember.ensures.roots (returns-clause-done c)

@@ -1,9 +1,11 @@
-use Rattle.std.proofs.Common.{map, Some, sym, ap, ◌∙◌}
+use Rattle.std.proofs.Common.{map, Some, sym, refl, ap, ◌∙◌}
 use Rattle.cache.specs.Caches.{entries_of}
 use Rattle.questions.specs.Tries.{question_of}
-use Rattle.machine.specs.Machine.{Settled, with_walks, shown_as}
-use Rattle.resolver.specs.Resolvers.{state_of, answer_for}
+use Rattle.machine.specs.Machine.{Settled, settle, with_walks, shown_as}
+use Rattle.machine.specs.Refine.{settles}
+use Rattle.resolver.specs.Resolvers.{roots_of, rules_for, state_of, answer_for}
 use Rattle.resolver.proofs.Asking.{read_at, without}
+use Rattle.resolver.proofs.Running.{moved, settled_keeps}
 use Rattle.resolver.proofs.resolver.Resolver.settle.Goals as goal
 
 pub returns-clause-shown : goal.returns-clause-shown
@@ -22,3 +24,13 @@ returns-clause-state c =
     let self = c.args.self.now in
     let at = c.in_ok-place in
     ap (λ ws. with_walks ws (state_of self)) (ap (map question_of) c.in_ok-question.ensures.2 ∙ without question_of self.walks at.place ∙ sym (ap (λ (s : Settled). s.walks) (at.ensures.1 (question_of c.in_ok-question.question))))
+
+pub returns-clause-runs : goal.returns-clause-runs
+returns-clause-runs c =
+    let self = c.args.self.now in
+    λ es j. moved (roots_of self) (roots_of self) (settle (rules_for self) (state_of self)).state _ es refl (returns-clause-state c) (settles j)
+
+pub returns-clause-promise : goal.returns-clause-promise
+returns-clause-promise c =
+    let self = c.args.self.now in
+    λ es j. settled_keeps (rules_for self) (state_of self) es j _ (returns-clause-shown c)
