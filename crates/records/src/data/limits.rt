@@ -1,11 +1,11 @@
 // Which data fit which kind.
-ghost use Rattle.std.specs.Prelude.{◌≡◌, ◌≤◌, true, map, length, vec_items, nat_le};
+ghost use Rattle.std.specs.Prelude.{◌≡◌, ◌≤◌, true, ◌&&◌, map, length, vec_items, nat_le};
 ghost use Rattle.names.specs.Wire.{wire_labels};
 ghost use Rattle.records.specs.Contents.{bytes_of, content_of};
 ghost use Rattle.meaning.specs.Model.{fits, pieces_fit};
 ghost use Rattle.meaning.specs.Transfer.{pieces};
 
-use super::Data;
+use super::{Data, Delegation};
 use crate::types::{Address, Kind};
 
 pub const MAX_PIECES: usize = 16;
@@ -34,12 +34,6 @@ fn are_few(addresses: &[Address]) -> bool
     ensures { result ≡ nat_le (length (map bytes_of addresses.now)) 16 }
 {
     addresses.len() <= MAX_PIECES
-}
-
-fn are_some(addresses: &[Address]) -> bool
-    ensures { result ≡ nat_le 1 (length (map bytes_of addresses.now)) }
-{
-    !addresses.is_empty()
 }
 
 fn address_len(address: &Address) -> usize
@@ -77,6 +71,15 @@ fn pieces_len(pieces: &[Vec<u8>]) -> usize
     len
 }
 
+impl Delegation {
+    // At least one server, and not too many.
+    pub fn fits(&self) -> bool
+        ensures { result ≡ (nat_le 1 (length (map bytes_of (vec_items self.now.servers))) && nat_le (length (map bytes_of (vec_items self.now.servers))) 16) }
+    {
+        !self.servers.is_empty() && are_few(self.servers.as_slice())
+    }
+}
+
 impl Data {
     // How many bytes its pieces take in a transfer, each behind its length.
     pub(crate) fn pieces_len(&self, kind: Kind) -> usize
@@ -100,10 +103,7 @@ impl Data {
             Data::Texts(pieces) => kind == Kind::TEXT && pieces_fit(pieces.as_slice()),
             Data::Others(pieces) => kind.is_plain() && pieces_fit(pieces.as_slice()),
             Data::Alias(_) => kind.is_alias(),
-            Data::Delegation(to) => {
-                let servers = to.servers.as_slice();
-                kind.is_delegation() && are_some(servers) && are_few(servers)
-            }
+            Data::Delegation(to) => kind.is_delegation() && to.fits(),
         }
     }
 }
