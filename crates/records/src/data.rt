@@ -2,6 +2,7 @@
 use crate::types::Address;
 use names::Name;
 
+pub mod copying;
 pub mod limits;
 
 // What a delegation says of the zone whose apex is its name.

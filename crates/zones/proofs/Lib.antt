@@ -2,6 +2,7 @@ mod Picked
 mod Places
 mod ByPlace
 mod Beside
+mod Canonical
 mod Topmost
 mod Narrow
 mod Insert

@@ -1,6 +1,7 @@
 -- Sets in the order of names, then kinds, and where a name and kind stand among them.
 use Rattle.std.specs.Prelude.{◌≡◌, ℕ, suc, ◌<◌, ◌≤◌, Bool, true, false, cond, ◌&&◌, ◌||◌, List, [], ◌∷◌, map, length, take, drop, slice_index_or}
 use Rattle.std.specs.Ordering.{is_lt, ordering_then, nat_cmp}
+use mathlib.Core.List.{Memᴰ}
 use Rattle.names.specs.Fronts.{front_below}
 use Rattle.names.specs.Order.{order, within}
 use Rattle.meaning.specs.Model.{Set, Zone}
@@ -66,3 +67,7 @@ pub record Narrowed (apex n : List (List ℕ)) (ss : List Set) (low high : ℕ) 
 -- sorted sets are distinct, so the laws of what a zone says hold of every zone that is made
 abbrev pub SortedDistinct : Type 0
 SortedDistinct = (z : Zone) → sorted z.sets ≡ true → Distinct z
+
+-- sorted sets with the same members are equal lists, so those of a zone have one form
+abbrev pub SortedCanonical : Type 0
+SortedCanonical = (ss ts : List Set) → sorted ss ≡ true → sorted ts ≡ true → ((s : Set) → Memᴰ s ss → Memᴰ s ts) → ((s : Set) → Memᴰ s ts → Memᴰ s ss) → ss ≡ ts
