@@ -1,16 +1,15 @@
 -- Calls as parts of a run of the world.
 use Rattle.std.proofs.Common.{◌≡◌, ℕ, Bool, true, false, cond, List, [], ◌∷◌, ◌++◌, Some, None, Ok, Err, Option, Result, nat_eq, sym, refl, ap, ◌∙◌, subst, true≢false}
 use mathlib.Core.List.{Memᴰ}
-use Rattle.std.specs.Option.{option_map}
 use Rattle.names.specs.declared.fault.Fault.{Fault}
 use Rattle.names.specs.declared.fault.Fault.TheVariants.{TooMuch, NotPending, WrongApex}
 use Rattle.meaning.specs.Says.{same}
 use Rattle.protocol.specs.Lists.{first}
 use Rattle.protocol.specs.Words.{Server}
-use Rattle.protocol.specs.World.{Rules, rules_of, Query, Response, Event, Tick, Hears, Forgets, Entry, entry_for, may_draw, world}
+use Rattle.protocol.specs.World.{Rules, rules_of, Response, Event, Hears, Forgets, entry_for, world}
 use Rattle.machine.specs.Store.{Put, Kept, Ousted, NoRoom, put}
-use Rattle.machine.specs.Machine.{Question, Pending, State, Shown, begin, settle, Sent, draw, Heard, misfit, in_use, keep, heard_by, hear_fit, hear_for, hear, tick}
-use Rattle.machine.specs.Refine.{Joint, begins, settles, draws, hears, ticks, sends, drops, hearing, Showing}
+use Rattle.machine.specs.Machine.{Question, Pending, State, Shown, begin, settle, draw, Heard, misfit, in_use, keep, heard_by, hear_fit, hear_for, hear}
+use Rattle.machine.specs.Refine.{Joint, draws, hears, sends, drops, Showing}
 use Rattle.machine.proofs.Main.{machine_refines}
 use Rattle.machine.proofs.Refining.{ok_is, err_ok}
 use Rattle.questions.specs.declared.query.Query as rust_query
@@ -90,6 +89,6 @@ heard_goes x y r (Ok rust.Kept) e h =
     λ es j m. moved (roots_of x) (roots_of y) (state_of y) (state_of y) _ e refl (kept_goes (rules_for x) r (state_of x) (record { state = state_of y; ousted = false }) es j m h refl)
 heard_goes x y r (Ok rust.Ousted) e h =
     λ es j m.
-        let o = ousted_goes (rules_for x) r (state_of x) (record { state = state_of y; ousted = true }) es j m h refl in
-        (o.0, o.1, o.2, moved (roots_of x) (roots_of y) (state_of y) (state_of y) _ e refl o.3)
+    let o = ousted_goes (rules_for x) r (state_of x) (record { state = state_of y; ousted = true }) es j m h refl in
+    (o.0, o.1, o.2, moved (roots_of x) (roots_of y) (state_of y) (state_of y) _ e refl o.3)
 heard_goes x y r (Err f) e h = λ es j m. moved (roots_of x) (roots_of y) (state_of x) (state_of y) es e h.1 j

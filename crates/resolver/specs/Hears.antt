@@ -1,5 +1,5 @@
 -- What hearing a response does.
-use Rattle.std.specs.Prelude.{◌≡◌, Bool, true, false, cond, List, map, vec_items, Ok, Err, Option, Result}
+use Rattle.std.specs.Prelude.{◌≡◌, Bool, true, false, map, vec_items, Ok, Err, Result}
 use Rattle.names.specs.declared.fault.Fault.{Fault}
 use Rattle.names.specs.Names.{labels}
 use Rattle.records.specs.Contents.{bytes_of}

@@ -3,7 +3,6 @@ use Rattle.std.specs.Prelude.{◌≡◌, ℕ, true, List, [], ◌∷◌, ◌++�
 use mathlib.Core.List.{Memᴰ}
 use Rattle.names.specs.declared.fault.Fault.{Fault}
 use Rattle.protocol.specs.World.{Event, Asks, Hears, Forgets, Response, may_draw, world}
-use Rattle.machine.specs.Machine as machine
 use Rattle.machine.specs.Refine.{Joint, Showing, Refines}
 use Rattle.cache.specs.Caches.{entries_of}
 use Rattle.questions.specs.declared.query.Query.{Query}

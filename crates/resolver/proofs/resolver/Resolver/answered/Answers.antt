@@ -1,8 +1,7 @@
-use Rattle.std.proofs.Common.{◌≡◌, Bool, true, false, not, nat_eq, Some, sym, ap, ◌∙◌, rules}
+use Rattle.std.proofs.Common.{◌≡◌, nat_eq, Some, sym, ◌∙◌, rules}
 use Rattle.std.proofs.lemmas.Bool.{not-true, not-false}
 use Rattle.std.proofs.lemmas.Result.{err_from_is_err_and}
 use Rattle.names.specs.Names.{labels}
-use Rattle.meaning.specs.Says.{same}
 use Rattle.meaning.proofs.Rules.{told_same}
 use Rattle.protocol.specs.Lists.{first}
 use Rattle.machine.specs.Machine.{Pending}

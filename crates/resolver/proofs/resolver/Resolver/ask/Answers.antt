@@ -70,8 +70,8 @@ returns c =
     let e = under_way (rules_for self) (state_of self) (question request.ticket (labels request.name) request.kind.number) (roots_of self) (entries_of self.cache) c.standing.result (omega arith)
     (c.standing.ensures.standing ∙ ap (standing (rules_for self) (state_of self)) u) c.in_default-standing.not-Done in
     let more =
-        ap (λ ws. with_walks ws (state_of self)) (ap (map question_of) (pushed 16 self.walks c.push.new.self c.in_ok-question.question c.push.result c.push.ensures (omega arith)) ∙ map-append question_of self.walks (c.in_ok-question.question ∷ []) ∙ ap (λ x. map question_of self.walks ++ (x ∷ [])) u)
-        ∙ sym (ap (λ (b : Began). b.state) e) in
+    ap (λ ws. with_walks ws (state_of self)) (ap (map question_of) (pushed 16 self.walks c.push.new.self c.in_ok-question.question c.push.result c.push.ensures (omega arith)) ∙ map-append question_of self.walks (c.in_ok-question.question ∷ []) ∙ ap (λ x. map question_of self.walks ++ (x ∷ [])) u)
+    ∙ sym (ap (λ (b : Began). b.state) e) in
     record {
       done = (sym (ap (λ (b : Began). b.shown) e), more);
       roots = refl;

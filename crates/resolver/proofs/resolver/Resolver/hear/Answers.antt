@@ -1,6 +1,6 @@
-use Rattle.std.proofs.Common.{◌≡◌, Ok, Err, refl, sym, ap, ◌∙◌}
+use Rattle.std.proofs.Common.{Ok, refl, ◌∙◌}
 use Rattle.std.proofs.lemmas.Result.{err_from_is_err_and}
-use Rattle.resolver.specs.Hears.{response_of, ousts, Hears}
+use Rattle.resolver.specs.Hears.{response_of}
 use Rattle.resolver.specs.Resolvers.{rules_for, state_of}
 use Rattle.resolver.proofs.Hearing.{heard_is}
 use Rattle.resolver.proofs.Running.{heard_goes}

@@ -14,8 +14,8 @@ returns-in-Shows c =
     let request = c.args.request.now in
     let es = entries_of self.cache in
     λ t.
-        by_answer (rules_for self) (state_of self) (question t (labels request.name) request.kind.number) (course_for (roots_of self) es c.walk-course.result) _ _ (c.walk-course.ensures.course (roots_of self)) refl refl
-        (outcome_at (slice_get es c.in-Shows.place)) (ap (end_for es) c.in-Shows.is)
+    by_answer (rules_for self) (state_of self) (question t (labels request.name) request.kind.number) (course_for (roots_of self) es c.walk-course.result) _ _ (c.walk-course.ensures.course (roots_of self)) refl refl
+    (outcome_at (slice_get es c.in-Shows.place)) (ap (end_for es) c.in-Shows.is)
 
 pub returns-in-TooLong : goal.returns-in-TooLong
 returns-in-TooLong c =
@@ -23,5 +23,5 @@ returns-in-TooLong c =
     let request = c.args.request.now in
     let es = entries_of self.cache in
     λ t.
-        by_length (rules_for self) (state_of self) (question t (labels request.name) request.kind.number) (course_for (roots_of self) es c.walk-course.result) _ _ (c.walk-course.ensures.course (roots_of self)) refl refl
-        (ap (end_for es) c.in-TooLong.is)
+    by_length (rules_for self) (state_of self) (question t (labels request.name) request.kind.number) (course_for (roots_of self) es c.walk-course.result) _ _ (c.walk-course.ensures.course (roots_of self)) refl refl
+    (ap (end_for es) c.in-TooLong.is)
