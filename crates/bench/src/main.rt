@@ -1,9 +1,10 @@
 // Counts what the service does, for a tool that counts instructions: `lookup SETS N` loads a zone of that many sets and asks
-// it N questions.
+// it N questions; `recall QUESTIONS N` lets a resolver learn so many questions and asks it N.
 #![tactic(auto)]
 
 mod load;
 mod questions;
+mod recall;
 
 use lines::number;
 use questions::Question;
@@ -52,7 +53,7 @@ impl fmt::Display for Tally {
     }
 }
 
-fn lookup(rt: &HostRuntime, heap: Global, sets: u64, wanted: u64) -> io::Result<()> {
+fn lookups(rt: &HostRuntime, heap: Global, sets: u64, wanted: u64) -> io::Result<()> {
     let plan = load::Plan::new(sets);
     let made = load::zone(heap, &plan).map_err(|_| io::Error::other("no such zone"))?;
     let questions = questions::mix(heap, &plan).map_err(|_| io::Error::other("no such questions"))?;
@@ -62,15 +63,36 @@ fn lookup(rt: &HostRuntime, heap: Global, sets: u64, wanted: u64) -> io::Result<
     println!(rt; "{tally}")
 }
 
+fn recalls(rt: &HostRuntime, heap: Global, questions: u64, wanted: u64) -> io::Result<()> {
+    let none = |_| io::Error::other("nothing is remembered");
+    let mut resolver = recall::learned(heap, questions).map_err(none)?;
+    let requests = recall::requests(heap, questions).map_err(none)?;
+    let answered = recall::answered(heap, &mut resolver, requests.as_slice(), wanted).map_err(
+        none,
+    )?;
+    let entries = resolver.cache().len();
+    println!(rt; "entries {entries}")?;
+    println!(rt; "answered {answered}")
+}
+
+fn usage(rt: &HostRuntime) -> io::Result<()> {
+    println!(rt; "usage: bench lookup SETS N")?;
+    println!(rt; "       bench recall QUESTIONS N")
+}
+
 fn run(rt: &HostRuntime, heap: Global) -> io::Result<()> {
     let mut args = env::args(rt)?;
     let _program = args.next();
-    let (Some(mode), Some(sets), Some(wanted)) = (args.next(), args.next(), args.next()) else {
-        return println!(rt; "usage: bench lookup SETS N");
+    let (Some(mode), Some(size), Some(wanted)) = (args.next(), args.next(), args.next()) else {
+        return usage(rt);
     };
-    match (number(sets.as_bytes()), number(wanted.as_bytes())) {
-        (Some(sets), Some(wanted)) if mode.as_str() == "lookup" => lookup(rt, heap, sets, wanted),
-        _ => println!(rt; "usage: bench lookup SETS N"),
+    let (Some(size), Some(wanted)) = (number(size.as_bytes()), number(wanted.as_bytes())) else {
+        return usage(rt);
+    };
+    match mode.as_str() {
+        "lookup" => lookups(rt, heap, size, wanted),
+        "recall" => recalls(rt, heap, size, wanted),
+        _ => usage(rt),
     }
 }
 
