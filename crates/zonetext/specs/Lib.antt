@@ -1,0 +1,4 @@
+pub mod Division
+pub mod Fields
+pub mod Texts
+pub mod Readings
