@@ -2,3 +2,5 @@
 #![tactic(auto)]
 
 mod division;
+mod numbered;
+mod refusal;
