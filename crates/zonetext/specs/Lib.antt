@@ -3,3 +3,4 @@ pub mod Fields
 pub mod Texts
 pub mod Readings
 pub mod Numbered
+pub mod Heads

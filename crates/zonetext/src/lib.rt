@@ -2,5 +2,9 @@
 #![tactic(auto)]
 
 mod division;
+mod fields;
+mod heads;
 mod numbered;
 mod refusal;
+
+pub use refusal::Refusal;
