@@ -1,1 +1,3 @@
 mod Lining
+mod Runs
+mod Dividing

@@ -1,5 +1,6 @@
 -- What the code's times and old zone stand for.
-use Rattle.std.specs.Prelude.{Bor, Ok, Err, Option, Result}
+use Rattle.std.specs.Prelude.{Ok, Err, Option, Result}
+use Rattle.std.specs.Borrow.{Bor}
 use Rattle.std.specs.Option.{option_map}
 use Rattle.names.specs.declared.fault.Fault.{Fault}
 use Rattle.zones.specs.declared.zone.Times as declared

@@ -4,3 +4,4 @@ pub mod Texts
 pub mod Readings
 pub mod Numbered
 pub mod Heads
+pub mod Cuts

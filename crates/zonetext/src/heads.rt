@@ -40,7 +40,7 @@ pub fn read_top(fields: &[Piece]) -> Result<Name, Fault>
 
 // Newer than that of the zone that was there, if it has the same apex.
 pub fn read_serial(old: Option<&Zone>, apex: &Name, fields: &[Piece]) -> Result<Serial, Fault>
-    ensures { serial_given result ≡ serial_of (old_zone old) (labels apex.now) (Some (map piece_of fields.now)) }
+    ensures { serial_given result ≡ serial_of (old_zone old.entry) (labels apex.now) (Some (map piece_of fields.now)) }
 {
     let [serial] = fields else {
         return Err(Fault::Malformed);

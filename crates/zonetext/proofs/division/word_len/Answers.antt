@@ -1,0 +1,13 @@
+use Rattle.std.proofs.Common.{not, ◌∙◌, rules, tests}
+use Rattle.std.proofs.Math.Bool.{not-not}
+use Rattle.std.proofs.lemmas.Iterator.{YieldsList-from_slice}
+use Rattle.std.proofs.lemmas.Iterator.Search.{position_from_yields_List}
+use Rattle.zonetext.specs.Division.{in_word}
+use Rattle.zonetext.proofs.Runs.{front_len}
+use Rattle.zonetext.proofs.division.word_len.Goals as goal
+
+pub returns-clause-value : goal.returns-clause-value
+returns-clause-value c =
+    let xs = c.args.bytes.now in
+    let found = position_from_yields_List (λ b. not (in_word b)) _ _ c.position-end.result c.position-end.ensures.ran (YieldsList-from_slice xs cc) (λ x b q k. search (rules, tests)) in
+    c.unwrap_or.ensures ∙ front_len (λ b. not (in_word b)) in_word (λ b. not-not (in_word b)) xs c.position-end.result found
