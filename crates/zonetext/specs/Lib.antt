@@ -5,3 +5,4 @@ pub mod Readings
 pub mod Numbered
 pub mod Heads
 pub mod Cuts
+pub mod Loading

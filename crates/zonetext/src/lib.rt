@@ -5,6 +5,8 @@ mod division;
 mod fields;
 mod heads;
 mod numbered;
+mod reading;
 mod refusal;
 
+pub use reading::{MAX_TRANSFER, load};
 pub use refusal::Refusal;
