@@ -11,3 +11,6 @@ pub mod Paths
 pub mod Asking
 pub mod Going
 pub mod Live
+pub mod Trying
+pub mod Lives
+pub mod Counting
