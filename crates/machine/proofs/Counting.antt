@@ -1,16 +1,14 @@
 -- What counting a query makes of a question, and what a call counts for it.
-use Rattle.std.proofs.Common.{◌≡◌, ℕ, ◌+◌, ◌*◌, ◌<◌, ◌≤◌, Bool, true, false, not, ◌&&◌, eqb, ◌⊎◌, List, [], ◌∷◌, ◌++◌, length, Some, None, Option, sym, refl, ap, ◌∙◌, subst, inl, inr, ⊎_elim, true≢false, arith}
+use Rattle.std.proofs.Common.{◌≡◌, ℕ, ◌+◌, ◌≤◌, Bool, true, false, not, ◌&&◌, eqb, ◌⊎◌, List, [], ◌∷◌, length, Option, sym, refl, ap, ◌∙◌, subst, inl, inr, ⊎_elim, true≢false, arith}
 use mathlib.Core.List.Memᴰ
 use mathlib.Core.List.{Memᴰ}
-use Rattle.std.proofs.lemmas.Bool.{cond-true, cond-false, and_parts, and_from, not-true, not_from_false, eqb-true, eq-eqb}
+use Rattle.std.proofs.lemmas.Bool.{cond-true, cond-false, and_parts, and_from, not-true, not_from_false}
 use Rattle.meaning.specs.Says.{same}
-use Rattle.meaning.proofs.Rules.{same_so, so_same}
-use Rattle.protocol.specs.Lists.{first}
+use Rattle.meaning.proofs.Rules.{same_so}
 use Rattle.protocol.specs.Words.{Name, Server}
 use Rattle.protocol.specs.World.{Rules, Event}
-use Rattle.protocol.specs.Walks.{LacksAt}
 use Rattle.protocol.proofs.Lists.{first_some, kept_in}
-use Rattle.machine.specs.Machine.{Tried, Question, Pending, State, walk_of, tried_of, count_of, too_many, is_for, Wants, standing, try_more, lacks_for, count_try, Sent, send, is_open, tick}
+use Rattle.machine.specs.Machine.{Tried, Question, Pending, State, walk_of, tried_of, too_many, is_for, Wants, standing, try_more, lacks_for, count_try, Sent, is_open, tick}
 use Rattle.machine.specs.Bounds.{Call, to_begin, to_settle, to_draw, to_hear, to_tick, by_others, Spot, all_of, Stays, one_a_word, NoLess}
 use Rattle.machine.proofs.Lives.{NoneSent, Sending, drew_so, counted_by, closing, asked_begin, asked_settle, asked_idle, asked_draw, asked_hear, asked_tick, asked_others}
 use Rattle.machine.proofs.Standings.{WantsSo, wants_so}

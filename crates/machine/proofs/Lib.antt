@@ -14,3 +14,5 @@ pub mod Live
 pub mod Trying
 pub mod Lives
 pub mod Counting
+pub mod Bounded
+pub mod Bounds

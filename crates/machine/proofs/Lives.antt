@@ -1,6 +1,5 @@
 -- What a call makes of a question under way: no call loses it, and what each leaves of it.
-use Rattle.std.proofs.Common.{◌≡◌, ℕ, zero, suc, ◌+◌, ◌<◌, ◌≤◌, Bool, true, false, cond, not, ◌&&◌, ◌||◌, eqb, leb, ◌⊎◌, List, [], ◌∷◌, ◌++◌, map, length, get_or, Some, None, Ok, Err, Option, is_some, is_none, sym, refl, ap, ◌∙◌, subst, inl, inr, ⊎_elim, true≢false, append_assoc, append-nil, arith}
-use mathlib.Core.List.Memᴰ
+use Rattle.std.proofs.Common.{◌≡◌, ℕ, ◌+◌, Bool, true, false, cond, not, ◌||◌, eqb, leb, ◌⊎◌, List, [], ◌∷◌, ◌++◌, map, length, get_or, Some, None, Ok, Err, Option, is_some, is_none, sym, refl, ap, ◌∙◌, inl, inr, ⊎_elim, true≢false, append_assoc, append-nil, arith}
 use mathlib.Core.List.{map-append, Memᴰ}
 use lib.ListN.{length-map}
 use Rattle.std.specs.Option.{option_or}

@@ -1,13 +1,13 @@
 -- What one more try makes of the tries of a question: no word forgotten, no count lower, at most 24 words.
-use Rattle.std.proofs.Common.{◌≡◌, ℕ, zero, suc, ◌+◌, ◌*◌, ◌<◌, ◌≤◌, min, Bool, true, false, cond, not, ◌&&◌, eqb, leb, ltb, ◌⊎◌, List, [], ◌∷◌, length, Some, None, Option, sym, refl, ap, ◌∙◌, subst, inl, inr, ⊎_elim, true≢false, suc-mul, arith}
+use Rattle.std.proofs.Common.{◌≡◌, ℕ, ◌+◌, ◌*◌, ◌<◌, ◌≤◌, min, Bool, true, false, cond, not, eqb, ltb, ◌⊎◌, List, [], ◌∷◌, length, Some, None, Option, sym, refl, ap, ◌∙◌, subst, inl, inr, ⊎_elim, true≢false, suc-mul, arith}
 use mathlib.Core.List.Memᴰ
 use mathlib.Core.List.{Memᴰ}
-use Rattle.std.proofs.lemmas.Bool.{cond-true, cond-false, cond_both, and_parts, and_from, not-true, not_from_false, eq-eqb, leb-false, lt-ltb, eqb-true, eqb-false}
+use Rattle.std.proofs.lemmas.Bool.{cond-true, cond-false, cond_both, and_parts, and_from, not-true, not_from_false, leb-false, lt-ltb, eqb-true}
 use Rattle.meaning.specs.Says.{same}
 use Rattle.meaning.proofs.Rules.{same_so, so_same}
 use Rattle.protocol.specs.Lists.{first, any}
 use Rattle.protocol.specs.Words.{Name}
-use Rattle.protocol.proofs.Lists.{some_is, some_none, first_here, first_there, first_some, first_none, any_none, none_any}
+use Rattle.protocol.proofs.Lists.{some_none, first_here, first_there, any_none, none_any}
 use Rattle.machine.specs.Machine.{Tried, is_word, tried_of, count_of, too_many, count_up, try_more}
 use Rattle.machine.specs.Bounds.{one_a_word}
 use Rattle.machine.proofs.Asking.{tried_in, tries_least}

@@ -1,10 +1,10 @@
 -- How many queries one question may cost, and in how many seconds it ends. Assumes nothing.
-use Rattle.std.specs.Prelude.{◌≡◌, ℕ, ◌+◌, ◌*◌, ◌<◌, ◌≤◌, max, Bool, true, false, cond, not, ◌&&◌, ◌⊎◌, List, [], ◌∷◌, ◌++◌, length, Some, None, Ok, Option, is_some, is_none, nat_eq}
+use Rattle.std.specs.Prelude.{◌≡◌, ℕ, ◌+◌, ◌*◌, ◌<◌, ◌≤◌, max, Bool, true, false, cond, not, ◌&&◌, List, [], ◌∷◌, ◌++◌, length, Some, None, Ok, Option, is_some, is_none, nat_eq}
 use mathlib.Core.List.{Memᴰ}
 use Rattle.protocol.specs.Lists.{first, any}
 use Rattle.protocol.specs.Words.{Name, Server}
 use Rattle.protocol.specs.World.{Rules, Query, Response, Event, Tick, may_draw, world, May}
-use Rattle.machine.specs.Machine.{max_words, max_tries, Tried, Question, Pending, State, Answer, Shown, first_state, walk_of, servers_on, is_word, tried_of, count_of, Standing, Done, Awaits, Wants, standing, shown_as, question, begin, is_done, settle_in, settle, is_waiting, Sent, draw, Heard, hear, tick}
+use Rattle.machine.specs.Machine.{max_words, max_tries, Tried, Question, Pending, State, Answer, first_state, is_word, tried_of, count_of, Done, Wants, standing, shown_as, question, begin, is_done, settle_in, settle, is_waiting, Sent, draw, Heard, hear, tick}
 use Rattle.machine.specs.Refine.{is_outside, sends, hearing, Joint}
 
 -- ---- one call
