@@ -15,4 +15,6 @@ pub mod Trying
 pub mod Lives
 pub mod Counting
 pub mod Bounded
+pub mod Ways
+pub mod Patient
 pub mod Bounds
