@@ -11,12 +11,12 @@ use Rattle.meaning.proofs.Rules.{so_same}
 use Rattle.meaning.specs.Speech.{Said, Found, AliasTo, Referred, Empty, Absent}
 use Rattle.protocol.specs.Words.{Name, Server, Word}
 use Rattle.protocol.specs.World.{Rules, Query, Response, Entry, World, Event, Tick, Publishes, OffersOwn, OffersCopy, Takes, Asks, Responds, Hears, Forgets, with_published, with_query, current, rises, copy_at, unexpired, offer, offer_own, offer_copy, copy_says, respond, matching, hear, drawn, may_draw, may_ask, entry_for, query_for, step, world}
-use Rattle.protocol.specs.Walks.{remembered, entry_said}
+use Rattle.protocol.specs.Walks.{LacksAt, remembered, entry_said}
 use Rattle.protocol.proofs.Lists.{some_none, some_any, first_some}
 use Rattle.protocol.proofs.Settled.{found_by, held}
 use Rattle.protocol.proofs.Steps.{inv}
 use Rattle.machine.specs.Machine as machine
-use Rattle.machine.specs.Machine.{max_words, max_tries, Tried, Question, Pending, State, with_walks, walk_of, servers_by, servers_after, servers_on, is_word, tried_of, count_of, exhausted, is_for, Wants, standing, question, begin, settle, count_try, Sent, draw, misfit, in_use, Heard, keep, is_open, tick}
+use Rattle.machine.specs.Machine.{max_words, max_tries, Tried, Question, Pending, State, with_walks, walk_of, servers_by, servers_after, servers_on, is_word, tried_of, count_of, too_many, exhausted, is_for, pending_for, Wants, standing, question, begin, settle, count_try, Sent, draw, misfit, in_use, Heard, keep, is_open, tick}
 use Rattle.machine.specs.Refine.{sends, hearing, Joint, starts, begins, settles, draws, hears, ticks, others}
 use Rattle.machine.specs.Bounds.{Call, to_begin, to_settle, to_draw, to_hear, to_tick, by_others, Spot, all_of, Stays, is_next, one_if, sent_for, Life, begun, goes_on, most, one_a_word, Counted}
 use Rattle.machine.proofs.Alike.{in_map}
@@ -163,30 +163,38 @@ module _ (r : Rules) where
 -- ---- each query counts
 
 module _ (r : Rules) (small : length r.roots ≤ 32) where
-  -- a query for the word that a question wants counts one more, which was not spent
-  module _ (st : State) (es : List Event) (j : Joint r st es) (u : Question) (a p : Name) (ss : List Server) (o : Option Tried) (w : standing r st u ≡ Wants a p ss o) (z : Pending) (for_it : is_for a p u.kind z ≡ true) (new : (t : Tried) → tried_of a p u.tries ≡ Some t → t.id ≡ z.query.id → ⊥) where
-    pub try_left : (count_of (tried_of a p u.tries) < 2 * length ss) × (length ss ≤ most r)
-    try_left =
-        let k = wants_so r st u a p ss o w in
-        let l = leb-false (2 * length ss) (count_of o) k.try_left in
-        let e = ap count_of k.tried_is in
-        let f = few_on r st (few_servers r st es j) u in
-        let g = ap length k.servers_are in
-        (omega arith, omega arith)
+  -- a query for the word that a question lacks and may ask for again counts one more, which was not spent
+  module _ (st : State) (es : List Event) (j : Joint r st es) (u : Question) (a p : Name) (lacks : (walk_of r st u).end ≡ LacksAt a p) (may_use : too_many (tried_of a p u.tries) u.tries ≡ false) (left : exhausted (servers_on r (walk_of r st u).words) (tried_of a p u.tries) ≡ false) (z : Pending) (for_it : is_for a p u.kind z ≡ true) (new : (t : Tried) → tried_of a p u.tries ≡ Some t → t.id ≡ z.query.id → ⊥) where
+    pub few_of : length (servers_on r (walk_of r st u).words) ≤ most r
+    few_of = few_on r st (few_servers r st es j) u
+
+    pub try_left : count_of (tried_of a p u.tries) < 2 * length (servers_on r (walk_of r st u).words)
+    try_left = leb-false (2 * length (servers_on r (walk_of r st u).words)) (count_of (tried_of a p u.tries)) left
 
     pub one_more : count_of (tried_of a p (count_try r st z u).tries) ≡ count_of (tried_of a p u.tries) + 1
     one_more =
         let l = try_left in
-        let l0 = l.0 in
-        let l1 = l.1 in
-        ap (λ ts. count_of (tried_of a p ts)) (counted_new r st u a p ss o w z for_it) ∙ more_counts a p z.place z.query.id u.tries new (omega arith)
+        let f = few_of in
+        ap (λ ts. count_of (tried_of a p ts)) (counted_new r st u a p lacks may_use z for_it) ∙ more_counts a p z.place z.query.id u.tries new (omega arith)
 
     pub spent_up : spent (2 * most r) (count_try r st z u).tries ≡ spent (2 * most r) u.tries + 1
     spent_up =
         let l = try_left in
-        let l0 = l.0 in
-        let l1 = l.1 in
-        ap (spent (2 * most r)) (counted_new r st u a p ss o w z for_it) ∙ spent_one (2 * most r) a p z.place z.query.id (omega arith) u.tries new (omega arith)
+        let f = few_of in
+        ap (spent (2 * most r)) (counted_new r st u a p lacks may_use z for_it) ∙ spent_one (2 * most r) a p z.place z.query.id (omega arith) u.tries new (omega arith)
+
+-- a question that wants a query may have one
+pub record MayHave (r : Rules) (st : State) (u : Question) (a p : Name) (ss : List Server) : Type 0 where
+  pub lacks : (walk_of r st u).end ≡ LacksAt a p
+  pub may_use : too_many (tried_of a p u.tries) u.tries ≡ false
+  pub left : exhausted (servers_on r (walk_of r st u).words) (tried_of a p u.tries) ≡ false
+  pub servers_are : ss ≡ servers_on r (walk_of r st u).words
+  pub not_pending : pending_for a p u.kind st.pending ≡ None
+
+pub may_have : (r : Rules) (st : State) (u : Question) (a p : Name) (ss : List Server) (o : Option Tried) → standing r st u ≡ Wants a p ss o → MayHave r st u a p ss
+may_have r st u a p ss o w =
+    let k = wants_so r st u a p ss o w in
+    record { lacks = k.lacks; may_use = k.may_use; left = (λ i. exhausted (sym k.servers_are i) (sym k.tried_is i)) ∙ k.try_left; servers_are = k.servers_are; not_pending = k.not_pending }
 
 -- the query that is sent when it is a question's turn
 pub record Turn (r : Rules) (st : State) (n : ℕ) (s : Sent) (x : Spot) : Type 0 where
@@ -242,28 +250,35 @@ module _ (r : Rules) (small : length r.roots ≤ 32) (st : State) (es : List Eve
   own_new : (t : Turn r st i s x) → (v : Tried) → tried_of t.apex t.name x.asked.tries ≡ Some v → v.id ≡ t.sending.pending.query.id → ⊥
   own_new t = new_for r es x.asked.tries (tidy_life r st es x m n l) i may t.sending.pending t.id_is t.apex t.name
 
+  may_own : (t : Turn r st i s x) → MayHave r st x.asked t.apex t.name t.servers
+  may_own t = may_have r st x.asked t.apex t.name t.servers t.try t.wanted
+
   draw_counts : Counted r st x.asked y.asked
   draw_counts =
       let g = in_run r st es x m n l in
       let t = own in
-      let left = try_left r small st es g.0 x.asked t.apex t.name t.servers t.try t.wanted t.sending.pending t.for_it (own_new t) in
+      let h = may_own t in
+      let few = few_of r small st es g.0 x.asked t.apex t.name h.lacks h.may_use h.left t.sending.pending t.for_it (own_new t) in
+      let left = try_left r small st es g.0 x.asked t.apex t.name h.lacks h.may_use h.left t.sending.pending t.for_it (own_new t) in
+      let same = ap length h.servers_are in
       record {
         apex = t.apex;
         name = t.name;
         servers = t.servers;
         wanted = t.wanted ∙ ap (Wants t.apex t.name t.servers) (wants_so r st x.asked t.apex t.name t.servers t.try t.wanted).tried_is;
-        few_servers = left.1;
-        left = left.0;
+        few_servers = omega arith;
+        left = omega arith;
         one_more = ap (λ (v : Question). count_of (tried_of t.apex t.name v.tries)) (asked_draw r st x g.1 es y i may s e t.sending k)
-            ∙ one_more r small st es g.0 x.asked t.apex t.name t.servers t.try t.wanted t.sending.pending t.for_it (own_new t);
+            ∙ one_more r small st es g.0 x.asked t.apex t.name h.lacks h.may_use h.left t.sending.pending t.for_it (own_new t);
       }
 
   draw_spends : spent (2 * most r) y.asked.tries ≡ spent (2 * most r) x.asked.tries + 1
   draw_spends =
       let g = in_run r st es x m n l in
       let t = own in
+      let h = may_own t in
       ap (λ (v : Question). spent (2 * most r) v.tries) (asked_draw r st x g.1 es y i may s e t.sending k)
-      ∙ spent_up r small st es g.0 x.asked t.apex t.name t.servers t.try t.wanted t.sending.pending t.for_it (own_new t)
+      ∙ spent_up r small st es g.0 x.asked t.apex t.name h.lacks h.may_use h.left t.sending.pending t.for_it (own_new t)
 
 pub each_counts : (r : Rules) → length r.roots ≤ 32 → (st : State) (es : List Event) (st' : State) (es' : List Event) (x y : Spot) (m n : ℕ) → Life r st es x m n → (c : Call r st es st' es') → Stays r st es st' es' c x y → sent_for c x ≡ 1 → Counted r st x.asked y.asked
 each_counts r small st es st' es' x y m n l (to_draw i may s e) k one = draw_counts r small st es x y m n l i may s e k one

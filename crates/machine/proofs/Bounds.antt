@@ -2,6 +2,7 @@
 use Rattle.machine.specs.Bounds.{MachineBounds}
 use Rattle.machine.proofs.Bounded.{few_words, each_counts, sent_few}
 use Rattle.machine.proofs.Counting.{no_less}
+use Rattle.machine.proofs.Ending.{ends_soon}
 use Rattle.machine.proofs.Lives.{calls, only_calls, onward, ends, in_run, sent_for_one}
 
 pub machine_bounds : MachineBounds
@@ -16,4 +17,5 @@ machine_bounds = record {
   few_words = few_words;
   each_counts = each_counts;
   sent_few = sent_few;
+  ends_soon = ends_soon;
 }

@@ -1,17 +1,17 @@
 -- What counting a query makes of a question, and what a call counts for it.
-use Rattle.std.proofs.Common.{◌≡◌, ℕ, ◌+◌, ◌≤◌, Bool, true, false, not, ◌&&◌, eqb, ◌⊎◌, List, [], ◌∷◌, length, Option, sym, refl, ap, ◌∙◌, subst, inl, inr, ⊎_elim, true≢false, arith}
+use Rattle.std.proofs.Common.{◌≡◌, ℕ, ◌+◌, ◌≤◌, Bool, true, false, not, ◌&&◌, eqb, ◌⊎◌, List, [], ◌∷◌, length, sym, refl, ap, ◌∙◌, subst, inl, inr, ⊎_elim, true≢false, arith}
 use mathlib.Core.List.Memᴰ
 use mathlib.Core.List.{Memᴰ}
 use Rattle.std.proofs.lemmas.Bool.{cond-true, cond-false, and_parts, and_from, not-true, not_from_false}
 use Rattle.meaning.specs.Says.{same}
 use Rattle.meaning.proofs.Rules.{same_so}
-use Rattle.protocol.specs.Words.{Name, Server}
+use Rattle.protocol.specs.Words.{Name}
 use Rattle.protocol.specs.World.{Rules, Event}
+use Rattle.protocol.specs.Walks.{LacksAt}
 use Rattle.protocol.proofs.Lists.{first_some, kept_in}
-use Rattle.machine.specs.Machine.{Tried, Question, Pending, State, walk_of, tried_of, too_many, is_for, Wants, standing, try_more, lacks_for, count_try, Sent, is_open, tick}
+use Rattle.machine.specs.Machine.{Tried, Question, Pending, State, walk_of, tried_of, too_many, is_for, try_more, lacks_for, count_try, Sent, is_open, tick}
 use Rattle.machine.specs.Bounds.{Call, to_begin, to_settle, to_draw, to_hear, to_tick, by_others, Spot, all_of, Stays, one_a_word, NoLess}
 use Rattle.machine.proofs.Lives.{NoneSent, Sending, drew_so, counted_by, closing, asked_begin, asked_settle, asked_idle, asked_draw, asked_hear, asked_tick, asked_others}
-use Rattle.machine.proofs.Standings.{WantsSo, wants_so}
 use Rattle.machine.proofs.Trying.{more_keeps, more_length, more_one, more_ids, spent, spent_more}
 
 -- ---- one query
@@ -137,26 +137,31 @@ module _ (r : Rules) (st : State) (x : Spot) (at : st.walks ≡ all_of x) (es : 
 pub no_less : (r : Rules) (st : State) (es : List Event) (st' : State) (es' : List Event) (x y : Spot) → st.walks ≡ all_of x → (c : Call r st es st' es') → Stays r st es st' es' c x y → NoLess x.asked y.asked
 no_less r st es st' es' x y at c s = less_counts r st (λ p. Unit {0}) x.asked y.asked (became r st x at es y (λ p. Unit {0}) st' es' c s (λ p m. tt))
 
--- ---- a new query for a question that wants one
+-- ---- a query for the word that a question lacks
 
-module _ (r : Rules) (st : State) (u : Question) (a n : Name) (ss : List Server) (o : Option Tried) (w : standing r st u ≡ Wants a n ss o) (p : Pending) (for_it : is_for a n u.kind p ≡ true) where
+-- none that lacks another word
+pub counts_none : (r : Rules) (st : State) (p : Pending) (u : Question) → lacks_for p u.kind (walk_of r st u).end ≡ false → count_try r st p u ≡ u
+counts_none r st p u e = go (counting r st p u)
+  where
+    go : Counting r st p u → count_try r st p u ≡ u
+    go (counts_not f h) = h
+    go (counts_so l f h) = absurd (true≢false (sym l ∙ e))
+
+module _ (r : Rules) (st : State) (u : Question) (a n : Name) (lacks : (walk_of r st u).end ≡ LacksAt a n) (may_use : too_many (tried_of a n u.tries) u.tries ≡ false) (p : Pending) (for_it : is_for a n u.kind p ≡ true) where
   apex_is : p.query.apex ≡ a
   apex_is = same_so p.query.apex a (and_parts (same p.query.apex a) (same p.query.name n) (and_parts (same p.query.apex a && same p.query.name n) (eqb p.query.kind u.kind) for_it).0).0
 
   name_is : p.query.name ≡ n
   name_is = same_so p.query.name n (and_parts (same p.query.apex a) (same p.query.name n) (and_parts (same p.query.apex a && same p.query.name n) (eqb p.query.kind u.kind) for_it).0).1
 
-  wants : WantsSo r st u a n ss o
-  wants = wants_so r st u a n ss o w
-
   pub counted_new : (count_try r st p u).tries ≡ try_more a n p.place p.query.id u.tries
   counted_new = go (counting r st p u)
     where
       lacking-it : lacks_for p u.kind (walk_of r st u).end ≡ true
-      lacking-it = ap (lacks_for p u.kind) wants.lacks ∙ for_it
+      lacking-it = ap (lacks_for p u.kind) lacks ∙ for_it
 
       usable : too_many (tried_of p.query.apex p.query.name u.tries) u.tries ≡ false
-      usable = (λ i. too_many (tried_of (apex_is i) (name_is i) u.tries) u.tries) ∙ wants.may_use
+      usable = (λ i. too_many (tried_of (apex_is i) (name_is i) u.tries) u.tries) ∙ may_use
 
       go : Counting r st p u → (count_try r st p u).tries ≡ try_more a n p.place p.query.id u.tries
       go (counts_not e h) = absurd (true≢false (sym (and_from (lacks_for p u.kind (walk_of r st u).end) (not (too_many (tried_of p.query.apex p.query.name u.tries) u.tries)) lacking-it (not_from_false (too_many (tried_of p.query.apex p.query.name u.tries) u.tries) usable)) ∙ e))

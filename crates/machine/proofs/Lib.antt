@@ -17,4 +17,6 @@ pub mod Counting
 pub mod Bounded
 pub mod Ways
 pub mod Patient
+pub mod Waiting
+pub mod Ending
 pub mod Bounds

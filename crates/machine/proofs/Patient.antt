@@ -1,24 +1,22 @@
 -- Queries that are pending: one for each word, and none for a word that is remembered.
-use Rattle.std.proofs.Common.{◌≡◌, ℕ, ◌+◌, ◌≤◌, Bool, true, false, not, ◌&&◌, eqb, leb, ◌⊎◌, List, [], ◌∷◌, ◌++◌, length, get_or, Some, None, Option, sym, refl, ap, ◌∙◌, subst, inl, inr, ⊎_elim, true≢false, arith}
+use Rattle.std.proofs.Common.{◌≡◌, ℕ, ◌+◌, ◌≤◌, true, not, ◌&&◌, eqb, ◌⊎◌, List, [], ◌∷◌, ◌++◌, None, sym, refl, ap, ◌∙◌, subst, inl, inr, ⊎_elim, arith}
 use mathlib.Core.List.Memᴰ
 use mathlib.Core.List.{Memᴰ}
-use Rattle.std.proofs.lemmas.Bool.{and_parts, and_from, eq-eqb, eqb-true, eqb-false, leb-true, not-true}
+use Rattle.std.proofs.lemmas.Bool.{and_parts, and_from, eq-eqb, eqb-true, eqb-false, not-true}
 use Rattle.meaning.specs.Says.{same}
 use Rattle.meaning.proofs.Rules.{same_so, so_same}
-use Rattle.protocol.specs.Lists.{first}
 use Rattle.protocol.specs.Words.{Name}
-use Rattle.protocol.specs.World.{Rules, Query, Entry, World, Event, Tick, counts, is_key, entry_for, query_for, world}
+use Rattle.protocol.specs.World.{Rules, Query, Entry, Event, entry_for, world}
 use Rattle.protocol.specs.Walks.{remembered}
-use Rattle.protocol.proofs.Inv.{Inv}
 use Rattle.protocol.proofs.Lists.{first_some, first_none, kept_in}
 use Rattle.protocol.proofs.Settled.{Held}
 use Rattle.protocol.proofs.Steps.{inv}
-use Rattle.machine.specs.Machine.{Question, Pending, State, walk_of, is_for, pending_for, place_for, Sent, send, Heard, close_in, keep, is_open, tick}
+use Rattle.machine.specs.Machine.{Pending, State, is_for, Sent, close_in, is_open, tick}
 use Rattle.machine.specs.Refine.{Joint, starts, begins, settles, draws, hears, ticks, others}
 use Rattle.machine.proofs.Alike.{in_map}
 use Rattle.machine.proofs.Asking.{lack_none}
 use Rattle.machine.proofs.Heard.{heard_so}
-use Rattle.machine.proofs.Lives.{NoneSent, Sending, drew_so, began_so, heard_keeps}
+use Rattle.machine.proofs.Lives.{Sending, drew_so, began_so, heard_keeps}
 use Rattle.machine.proofs.Main.{Runs, runs}
 use Rattle.machine.proofs.Standings.{wants_so}
 use Rattle.machine.proofs.Ways.{none_remembered, not_held, counted_before, Cached, cached}

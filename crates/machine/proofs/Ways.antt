@@ -1,22 +1,19 @@
 -- What becomes of a walk where words are heard or run out.
-use Rattle.std.proofs.Common.{◌≡◌, ℕ, zero, suc, ◌+◌, ◌≤◌, Bool, true, false, ◌&&◌, eqb, leb, ◌⊎◌, List, [], ◌∷◌, ◌++◌, Some, None, Option, sym, refl, ap, ◌∙◌, subst, inl, inr, ⊎_elim, true≢false, arith}
-use mathlib.Core.List.Memᴰ
+use Rattle.std.proofs.Common.{◌≡◌, ℕ, zero, suc, ◌+◌, true, false, ◌&&◌, eqb, ◌⊎◌, List, Some, None, Option, sym, refl, ap, ◌∙◌, subst, inl, inr, ⊎_elim, true≢false, arith}
 use mathlib.Core.List.{Memᴰ}
-use Rattle.std.proofs.lemmas.Bool.{and_parts, and_from, eq-eqb, eqb-true, leb-true, le-leb, false_from_ne_true}
+use Rattle.std.proofs.lemmas.Bool.{and_from, eq-eqb, leb-true, le-leb, false_from_ne_true}
 use Rattle.meaning.specs.Says.{same}
-use Rattle.meaning.proofs.Rules.{same_so, so_same}
-use Rattle.protocol.specs.Lists.{first, any}
-use Rattle.protocol.specs.Words.{Name, Outcome, Next, Ends, Goes, next}
+use Rattle.meaning.proofs.Rules.{so_same}
+use Rattle.protocol.specs.Words.{Name, Next, Ends, Goes, next}
 use Rattle.protocol.specs.World.{Rules, Response, Entry, until, counts, is_key, entry_for}
-use Rattle.protocol.specs.Walks.{End, Shows, LacksAt, TooLong, Walk, behind, walk, remembered, entry_said}
-use Rattle.protocol.proofs.Lists.{some_is, some_none, some_any, first_some, first_none}
-use Rattle.protocol.proofs.Settled.{Held, held, found_by}
+use Rattle.protocol.specs.Walks.{LacksAt, Walk, behind, walk, remembered, entry_said}
+use Rattle.protocol.proofs.Lists.{first_none}
+use Rattle.protocol.proofs.Settled.{Held, held}
 use Rattle.protocol.proofs.Walks.{walk_none, walk_lacks, walk_ends, walk_goes}
-use Rattle.machine.specs.Store.{one_a_key, put}
-use Rattle.machine.specs.Machine.{Question, Pending, State, walk_of, used_by, in_use, Heard}
-use Rattle.machine.proofs.Asking.{lack_none}
+use Rattle.machine.specs.Store.{one_a_key}
+use Rattle.machine.specs.Machine.{Pending, State, in_use, Heard}
 use Rattle.machine.proofs.Heard.{HeardSo, Stored}
-use Rattle.machine.proofs.Keys.{of_key, key_so, key_self, one_of}
+use Rattle.machine.proofs.Keys.{of_key, one_of}
 use Rattle.machine.proofs.Paths.{Source, recalled}
 use Rattle.machine.proofs.Storing.{store_laws}
 

@@ -4,7 +4,7 @@ use mathlib.Core.List.{Memᴰ}
 use Rattle.protocol.specs.Lists.{first, any}
 use Rattle.protocol.specs.Words.{Name, Server}
 use Rattle.protocol.specs.World.{Rules, Query, Response, Event, Tick, may_draw, world, May}
-use Rattle.machine.specs.Machine.{max_words, max_tries, Tried, Question, Pending, State, Answer, first_state, is_word, tried_of, count_of, Done, Wants, standing, shown_as, question, begin, is_done, settle_in, settle, is_waiting, Sent, draw, Heard, hear, tick}
+use Rattle.machine.specs.Machine.{max_words, max_tries, Tried, Question, Pending, State, Answer, first_state, is_word, tried_of, count_of, Standing, Done, Awaits, Wants, standing, shown_as, question, begin, is_done, settle_in, settle, is_waiting, Sent, draw, Heard, hear, tick}
 use Rattle.machine.specs.Refine.{is_outside, sends, hearing, Joint}
 
 -- ---- one call
@@ -92,6 +92,28 @@ pub data Life (r : Rules) : State → List Event → Spot → ℕ → ℕ → Ty
   goes_on : {st : State} {es : List Event} {st' : State} {es' : List Event} {x y : Spot} {sent seconds : ℕ} →
       Life r st es x sent seconds → (c : Call r st es st' es') → Stays r st es st' es' c x y → Life r st' es' y (sent + sent_for c x) (seconds + seconds_in c)
 
+-- ---- a machine that is looked after
+
+abbrev pub is_awaiting : Standing → Bool
+is_awaiting (Awaits a p) = true
+is_awaiting (Done x n) = false
+is_awaiting (Wants a p ss o) = false
+
+-- what is done is shown before an id is drawn, and before a second passes ids are drawn until nothing is wanted: so the
+-- question is not done at the one, and waits for a query at the other
+abbrev pub in_time : {r : Rules} {st : State} {es : List Event} {st' : State} {es' : List Event} → Call r st es st' es' → Spot → Bool
+in_time {r = r} {st = st} (to_draw n m s e) x = is_none (is_done (standing r st x.asked))
+in_time {r = r} {st = st} to_tick x = is_awaiting (standing r st x.asked)
+in_time (to_begin v) x = true
+in_time to_settle x = true
+in_time (to_hear y m p f h e) x = true
+in_time (by_others e o m) x = true
+
+-- at each call of a life
+abbrev pub Tended : {r : Rules} {st : State} {es : List Event} {x : Spot} {sent seconds : ℕ} → Life r st es x sent seconds → Type 0
+Tended (begun j t q k h) = Unit {0}
+Tended (goes_on {x = x} l c k) = Tended l × (in_time c x ≡ true)
+
 -- ---- what is promised
 
 -- the most servers that are named for a zone: a referral has at most 16
@@ -155,3 +177,6 @@ pub record MachineBounds : Type 0 where
   pub each_counts : (r : Rules) → length r.roots ≤ 32 → (st : State) (es : List Event) (st' : State) (es' : List Event) (x y : Spot) (m n : ℕ) → Life r st es x m n → (c : Call r st es st' es') → Stays r st es st' es' c x y → sent_for c x ≡ 1 → Counted r st x.asked y.asked
   -- and at most two for each server of 24 words are sent: 768, if the root has no more than 16 servers
   pub sent_few : (r : Rules) → length r.roots ≤ 32 → (st : State) (es : List Event) (x : Spot) (m n : ℕ) → Life r st es x m n → m ≤ max_words * (max_tries * most r)
+  -- if the machine is looked after, a count grows at least every eleven seconds (with a patience of five), so that a
+  -- question ends within 8,454 seconds: two waits for a query at most lie between
+  pub ends_soon : (r : Rules) → length r.roots ≤ 32 → (st : State) (es : List Event) (x : Spot) (m n : ℕ) → (l : Life r st es x m n) → Tended l → n ≤ max_words * (max_tries * most r) * (2 * r.patience + 1) + (r.patience + 1)
