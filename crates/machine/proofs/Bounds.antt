@@ -3,7 +3,8 @@ use Rattle.machine.specs.Bounds.{MachineBounds}
 use Rattle.machine.proofs.Bounded.{few_words, each_counts, sent_few}
 use Rattle.machine.proofs.Counting.{no_less}
 use Rattle.machine.proofs.Ending.{ends_soon}
-use Rattle.machine.proofs.Lives.{calls, only_calls, onward, ends, in_run, sent_for_one}
+use Rattle.machine.proofs.Lives.{calls, only_calls, one_place, onward, ends, in_run, sent_for_one}
+use Rattle.machine.proofs.Tending.{none_done, all_wait}
 
 pub machine_bounds : MachineBounds
 machine_bounds = record {
@@ -11,11 +12,14 @@ machine_bounds = record {
   only_calls = only_calls;
   in_run = in_run;
   onward = λ r st es st' es' x at c n. onward r st x at es st' es' c n;
+  one_place = one_place;
   ends = λ r st es st' es' x at c n. ends r st x at es st' es' c n;
   sent_for_one = sent_for_one;
   no_less = no_less;
   few_words = few_words;
   each_counts = each_counts;
   sent_few = sent_few;
+  none_done = none_done;
+  all_wait = all_wait;
   ends_soon = ends_soon;
 }

@@ -15,6 +15,7 @@ pub mod Trying
 pub mod Lives
 pub mod Counting
 pub mod Bounded
+pub mod Tending
 pub mod Ways
 pub mod Patient
 pub mod Waiting

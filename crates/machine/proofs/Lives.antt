@@ -1,5 +1,6 @@
 -- What a call makes of a question under way: no call loses it, and what each leaves of it.
-use Rattle.std.proofs.Common.{◌≡◌, ℕ, ◌+◌, Bool, true, false, cond, not, ◌||◌, eqb, leb, ◌⊎◌, List, [], ◌∷◌, ◌++◌, map, length, get_or, Some, None, Ok, Err, Option, is_some, is_none, sym, refl, ap, ◌∙◌, inl, inr, ⊎_elim, true≢false, append_assoc, append-nil, arith}
+use Rattle.std.proofs.Common.{◌≡◌, ℕ, suc, ◌+◌, Bool, true, false, cond, not, ◌||◌, eqb, leb, ◌⊎◌, List, [], ◌∷◌, ◌++◌, map, length, get_or, Some, None, Ok, Err, Option, is_some, is_none, sym, refl, ap, ◌∙◌, subst, inl, inr, ⊎_elim, true≢false, append_assoc, append-nil, arith}
+use mathlib.Core.List.Memᴰ
 use mathlib.Core.List.{map-append, Memᴰ}
 use lib.ListN.{length-map}
 use Rattle.std.specs.Option.{option_or}
@@ -9,7 +10,7 @@ use Rattle.std.proofs.lemmas.Bool.{cond-true, cond-false, cond_both, and_parts, 
 use Rattle.protocol.specs.Lists.{first, kept, any}
 use Rattle.protocol.specs.Words.{Name, Server}
 use Rattle.protocol.specs.World.{Rules, Query, Response, Entry, Event, Tick, query_for, may_draw, world, May}
-use Rattle.protocol.proofs.Lists.{some_is, some_none}
+use Rattle.protocol.proofs.Lists.{some_is, some_none, any_none}
 use Rattle.machine.specs.Machine as machine
 use Rattle.machine.specs.Machine.{max_walks, max_pending, Tried, Question, Pending, State, Answer, Nowhere, Shown, Standing, Done, Awaits, Wants, standing, shown_as, with_walks, question, Began, begin_by, begin, is_done, Settled, settle_on, settle_in, settle, tried_of, count_try, count_tries, place_for, last_of, is_waiting, Sent, send, send_for, send_on, is_pending, draw, Heard, keep, is_open, count_all, tick}
 use Rattle.machine.specs.Refine.{is_outside, sends, hearing, Joint, starts, begins, settles, draws, hears, ticks, others}
@@ -54,6 +55,13 @@ one_cut (x ∷ xs) (y ∷ ys) a b vs ws e l =
     let h = cons_head x y (xs ++ (a ∷ vs)) (ys ++ (b ∷ ws)) e in
     let k = one_cut xs ys a b vs ws (cons_tail x y (xs ++ (a ∷ vs)) (ys ++ (b ∷ ws)) e) (omega arith) in
     ((λ i. h i ∷ k.0 i), k.1, k.2)
+
+-- two spots of as many before in one list
+pub one_spot : (x y : Spot) → all_of x ≡ all_of y → length x.before ≡ length y.before → x ≡ y
+one_spot x y e l = let k = one_cut x.before y.before x.asked y.asked x.behind y.behind e l in λ i. record { before = k.0 i; asked = k.1 i; behind = k.2 i }
+
+pub one_place : (r : Rules) (st : State) (es : List Event) (st' : State) (es' : List Event) (c : Call r st es st' es') (x y z : Spot) → Stays r st es st' es' c x y → Stays r st es st' es' c x z → y ≡ z
+one_place r st es st' es' c x y z s k = one_spot y z (sym s.walks_are ∙ k.walks_are) (s.place_is ∙ sym k.place_is)
 
 -- ---- another begins
 
@@ -143,7 +151,7 @@ module _ {A : Type 0} (test : A → Bool) where
   last_here [] a ys t h = ap (λ o. option_or o (cond (test a) (Some a) None)) (last_none ys h) ∙ cond-true (test a) (Some a) None t
   last_here (x ∷ xs) a ys t h = ap (λ o. option_or o (cond (test x) (Some x) None)) (last_here xs a ys t h)
 
-  none_last : (xs : List A) → last_of test xs ≡ None → any test xs ≡ false
+  pub none_last : (xs : List A) → last_of test xs ≡ None → any test xs ≡ false
   unfolding last_of any
   none_last [] h = refl
   none_last (x ∷ xs) h = go (last_of test xs) refl (test x) refl (none_last xs)
@@ -170,6 +178,13 @@ module _ {A : Type 0} (test : A → Bool) where
           ([], xs, ap (λ z. z ∷ xs) i, ap test (sym i) ∙ f, none_last xs e)
       go None e false f ih = absurd (some_none a (sym (ap (λ o. option_or o (cond (test x) (Some x) None)) e ∙ cond-false (test x) (Some x) None f) ∙ h))
 
+-- the last that passes stands at one place
+one_last : {A : Type 0} (test : A → Bool) (xs ys : List A) (a b : A) (vs ws : List A) → xs ++ (a ∷ vs) ≡ ys ++ (b ∷ ws) → test a ≡ true → test b ≡ true → any test vs ≡ false → any test ws ≡ false → length xs ≡ length ys
+one_last test [] [] a b vs ws e f g h k = refl
+one_last {A} test [] (y ∷ ys) a b vs ws e f g h k = absurd (any_none test vs h b (subst (λ (zs : List A). Memᴰ b zs) (sym (cons_tail a y vs (ys ++ (b ∷ ws)) e)) (Memᴰ.append_right ys (Memᴰ.head refl))) g)
+one_last {A} test (x ∷ xs) [] a b vs ws e f g h k = absurd (any_none test ws k a (subst (λ (zs : List A). Memᴰ a zs) (cons_tail x b (xs ++ (a ∷ vs)) ws e) (Memᴰ.append_right xs (Memᴰ.head refl))) f)
+one_last test (x ∷ xs) (y ∷ ys) a b vs ws e f g h k = ap suc (one_last test xs ys a b vs ws (cons_tail x y (xs ++ (a ∷ vs)) (ys ++ (b ∷ ws)) e) f g h k)
+
 -- the query of the last question that wants one
 pub record Sending (r : Rules) (n : ℕ) (st : State) (s : Sent) : Type 0 where
   pub spot : Spot
@@ -188,7 +203,7 @@ abbrev pub NoneSent : State → Sent → Type 0
 NoneSent st s = s ≡ record { state = st; query = None }
 
 module _ (r : Rules) (n : ℕ) (st : State) (s : Sent) where
-  sending_for : (u : Question) (front back : List Question) → st.walks ≡ front ++ (u ∷ back) → waits r st u ≡ true → any (waits r st) back ≡ false → (x : Standing) → standing r st u ≡ x → send_for r n st u x ≡ s → Sending r n st s
+  pub sending_for : (u : Question) (front back : List Question) → st.walks ≡ front ++ (u ∷ back) → waits r st u ≡ true → any (waits r st) back ≡ false → (x : Standing) → standing r st u ≡ x → send_for r n st u x ≡ s → Sending r n st s
   sending_for u front back at w none (Wants a p ss o) e h =
       record {
         spot = record { before = front; asked = u; behind = back };
@@ -402,6 +417,10 @@ sent_for_one r st n s q e h = go (drew_so r n st s e)
           servers = k.servers;
           wanted = k.wanted ∙ ap (Wants k.apex k.name k.servers) w.tried_is ∙ (λ j. Wants (a j) (p j) k.servers (tried_of (a j) (p j) k.spot.asked.tries));
           kind_is = sym (ap (λ (z : Query). z.kind) i);
+          only = λ x at next.
+              let f = and_parts (waits r st x.asked) (not (any (waits r st) x.behind)) next in
+              let e = one_last (waits r st) x.before k.spot.before x.asked k.spot.asked x.behind k.spot.behind (sym at ∙ k.under_way) f.0 (ap is_waiting k.wanted) (not-true (any (waits r st) x.behind) f.1) k.none_behind in
+              one_spot x k.spot (sym at ∙ k.under_way) e;
         }
 
 -- whose turn it is, it is sent for

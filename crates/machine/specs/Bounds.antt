@@ -4,7 +4,7 @@ use mathlib.Core.List.{Memᴰ}
 use Rattle.protocol.specs.Lists.{first, any}
 use Rattle.protocol.specs.Words.{Name, Server}
 use Rattle.protocol.specs.World.{Rules, Query, Response, Event, Tick, may_draw, world, May}
-use Rattle.machine.specs.Machine.{max_words, max_tries, Tried, Question, Pending, State, Answer, first_state, is_word, tried_of, count_of, Standing, Done, Awaits, Wants, standing, shown_as, question, begin, is_done, settle_in, settle, is_waiting, Sent, draw, Heard, hear, tick}
+use Rattle.machine.specs.Machine.{max_words, max_tries, max_pending, Tried, Question, Pending, State, Answer, first_state, is_word, tried_of, count_of, Standing, Done, Awaits, Wants, standing, shown_as, question, begin, is_done, settle_in, settle, is_waiting, Sent, draw, Heard, hear, tick}
 use Rattle.machine.specs.Refine.{is_outside, sends, hearing, Joint}
 
 -- ---- one call
@@ -100,7 +100,8 @@ is_awaiting (Done x n) = false
 is_awaiting (Wants a p ss o) = false
 
 -- what is done is shown before an id is drawn, and before a second passes ids are drawn until nothing is wanted: so the
--- question is not done at the one, and waits for a query at the other
+-- question is not done at the one, and waits for a query at the other (while all places for queries are taken, nothing
+-- can be drawn; such seconds are not in time)
 abbrev pub in_time : {r : Rules} {st : State} {es : List Event} {st' : State} {es' : List Event} → Call r st es st' es' → Spot → Bool
 in_time {r = r} {st = st} (to_draw n m s e) x = is_none (is_done (standing r st x.asked))
 in_time {r = r} {st = st} to_tick x = is_awaiting (standing r st x.asked)
@@ -143,7 +144,7 @@ pub record Counted (r : Rules) (st : State) (u v : Question) : Type 0 where
   pub left : count_of (tried_of apex name u.tries) < max_tries * length servers
   pub one_more : count_of (tried_of apex name v.tries) ≡ count_of (tried_of apex name u.tries) + 1
 
--- the question for whose word a query is sent
+-- the question for whose word a query is sent, and no other
 pub record SentFor (r : Rules) (st : State) (q : Query) : Type 0 where
   pub spot : Spot
   pub under_way : st.walks ≡ all_of spot
@@ -151,6 +152,7 @@ pub record SentFor (r : Rules) (st : State) (q : Query) : Type 0 where
   pub servers : List Server
   pub wanted : standing r st spot.asked ≡ Wants q.apex q.name servers (tried_of q.apex q.name spot.asked.tries)
   pub kind_is : q.kind ≡ spot.asked.kind
+  pub only : (x : Spot) → st.walks ≡ all_of x → is_next r st x ≡ true → x ≡ spot
 
 -- a question that is shown, with the answer by which it is done
 pub record EndsNow (r : Rules) (st : State) (u : Question) : Type 0 where
@@ -166,8 +168,9 @@ pub record MachineBounds : Type 0 where
   -- a life is of a question under way in a run, and goes on by every call that doesn't show the question: no call escapes
   pub in_run : (r : Rules) (st : State) (es : List Event) (x : Spot) (m n : ℕ) → Life r st es x m n → Joint r st es × (st.walks ≡ all_of x)
   pub onward : (r : Rules) (st : State) (es : List Event) (st' : State) (es' : List Event) (x : Spot) → st.walks ≡ all_of x → (c : Call r st es st' es') → shows_it c x ≡ false → (y : Spot) × Stays r st es st' es' c x y
+  pub one_place : (r : Rules) (st : State) (es : List Event) (st' : State) (es' : List Event) (c : Call r st es st' es') (x y z : Spot) → Stays r st es st' es' c x y → Stays r st es st' es' c x z → y ≡ z
   pub ends : (r : Rules) (st : State) (es : List Event) (st' : State) (es' : List Event) (x : Spot) → st.walks ≡ all_of x → (c : Call r st es st' es') → shows_it c x ≡ true → EndsNow r st x.asked
-  -- every query that is sent is sent for a question under way
+  -- every query that is sent is sent for one question under way
   pub sent_for_one : (r : Rules) (st : State) (n : ℕ) (s : Sent) (q : Query) → draw r n st ≡ Ok s → s.query ≡ Some q → SentFor r st q
   -- no call forgets a word that was tried or lowers a count
   pub no_less : (r : Rules) (st : State) (es : List Event) (st' : State) (es' : List Event) (x y : Spot) → st.walks ≡ all_of x → (c : Call r st es st' es') → Stays r st es st' es' c x y → NoLess x.asked y.asked
@@ -177,6 +180,10 @@ pub record MachineBounds : Type 0 where
   pub each_counts : (r : Rules) → length r.roots ≤ 32 → (st : State) (es : List Event) (st' : State) (es' : List Event) (x y : Spot) (m n : ℕ) → Life r st es x m n → (c : Call r st es st' es') → Stays r st es st' es' c x y → sent_for c x ≡ 1 → Counted r st x.asked y.asked
   -- and at most two for each server of 24 words are sent: 768, if the root has no more than 16 servers
   pub sent_few : (r : Rules) → length r.roots ≤ 32 → (st : State) (es : List Event) (x : Spot) (m n : ℕ) → Life r st es x m n → m ≤ max_words * (max_tries * most r)
-  -- if the machine is looked after, a count grows at least every eleven seconds (with a patience of five), so that a
-  -- question ends within 8,454 seconds: two waits for a query at most lie between
+  -- a machine can be looked after by what it shows: where nothing is shown, no question is done; and where an id that has
+  -- a place is not used, every question waits for a query
+  pub none_done : (r : Rules) (st : State) → (settle r st).shown ≡ None → (u : Question) → Memᴰ u st.walks → is_done (standing r st u) ≡ None
+  pub all_wait : (r : Rules) (st : State) → (settle r st).shown ≡ None → (n : ℕ) (s : Sent) → draw r n st ≡ Ok s → s.query ≡ None → length st.pending < max_pending → (u : Question) → Memᴰ u st.walks → is_awaiting (standing r st u) ≡ true
+  -- if it is looked after, a question ends: there are at most two waits for a query, of a patience each, from one growth
+  -- of a count to the next; that is 8,454 seconds, if the root has no more than 16 servers and the patience is five seconds
   pub ends_soon : (r : Rules) → length r.roots ≤ 32 → (st : State) (es : List Event) (x : Spot) (m n : ℕ) → (l : Life r st es x m n) → Tended l → n ≤ max_words * (max_tries * most r) * (2 * r.patience + 1) + (r.patience + 1)
