@@ -15,9 +15,10 @@ pub mod Trying
 pub mod Lives
 pub mod Counting
 pub mod Bounded
-pub mod Tending
 pub mod Ways
 pub mod Patient
+pub mod Places
+pub mod Tending
 pub mod Waiting
 pub mod Ending
 pub mod Bounds

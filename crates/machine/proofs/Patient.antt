@@ -1,5 +1,5 @@
 -- Queries that are pending: one for each word, and none for a word that is remembered.
-use Rattle.std.proofs.Common.{◌≡◌, ℕ, ◌+◌, ◌≤◌, true, not, ◌&&◌, eqb, ◌⊎◌, List, [], ◌∷◌, ◌++◌, None, sym, refl, ap, ◌∙◌, subst, inl, inr, ⊎_elim, arith}
+use Rattle.std.proofs.Common.{◌≡◌, ℕ, ◌+◌, ◌≤◌, Bool, true, false, not, ◌&&◌, eqb, ◌⊎◌, List, [], ◌∷◌, ◌++◌, None, sym, refl, ap, ◌∙◌, subst, inl, inr, ⊎_elim, true≢false, arith}
 use mathlib.Core.List.Memᴰ
 use mathlib.Core.List.{Memᴰ}
 use Rattle.std.proofs.lemmas.Bool.{and_parts, and_from, eq-eqb, eqb-true, eqb-false, not-true}
@@ -7,19 +7,21 @@ use Rattle.meaning.specs.Says.{same}
 use Rattle.meaning.proofs.Rules.{same_so, so_same}
 use Rattle.protocol.specs.Words.{Name}
 use Rattle.protocol.specs.World.{Rules, Query, Entry, Event, entry_for, world}
-use Rattle.protocol.specs.Walks.{remembered}
-use Rattle.protocol.proofs.Lists.{first_some, first_none, kept_in}
-use Rattle.protocol.proofs.Settled.{Held}
+use Rattle.protocol.specs.Walks.{End, Shows, LacksAt, TooLong, remembered, shown_by}
+use Rattle.protocol.proofs.Lists.{some_any, first_some, first_none, kept_in}
+use Rattle.protocol.proofs.Settled.{Held, held}
 use Rattle.protocol.proofs.Steps.{inv}
-use Rattle.machine.specs.Machine.{Pending, State, is_for, Sent, close_in, is_open, tick}
+use Rattle.machine.specs.Machine.{Question, Pending, State, walk_of, used_by, in_use, is_for, lacks_for, Sent, close_in, is_open, tick}
 use Rattle.machine.specs.Refine.{Joint, starts, begins, settles, draws, hears, ticks, others}
 use Rattle.machine.proofs.Alike.{in_map}
 use Rattle.machine.proofs.Asking.{lack_none}
 use Rattle.machine.proofs.Heard.{heard_so}
+use Rattle.machine.proofs.Keys.{of_key, key_so, key_self}
 use Rattle.machine.proofs.Lives.{Sending, drew_so, began_so, heard_keeps}
 use Rattle.machine.proofs.Main.{Runs, runs}
+use Rattle.machine.proofs.Paths.{Source, recalled}
 use Rattle.machine.proofs.Standings.{wants_so}
-use Rattle.machine.proofs.Ways.{none_remembered, not_held, counted_before, Cached, cached}
+use Rattle.machine.proofs.Ways.{none_remembered, not_held, Stay, LackStill, same_way, counted_before, Cached, cached}
 
 -- ---- the word of a query
 
@@ -48,6 +50,12 @@ both_for a p k x z h g =
     let i = for_so a p k x h in
     let j = for_so a p k z g in
     record { apex_is = j.apex_is ∙ sym i.apex_is; name_is = j.name_is ∙ sym i.name_is; kind_is = j.kind_is ∙ sym i.kind_is }
+
+-- where a question lacks the word of a query
+pub lack_of : (p : Pending) (k : ℕ) (e : End) → lacks_for p k e ≡ true → (a : Name) × (q : Name) × (e ≡ LacksAt a q) × (is_for a q k p ≡ true)
+lack_of p k (LacksAt a q) h = (a, q, refl, h)
+lack_of p k (Shows o) h = absurd (true≢false (sym h))
+lack_of p k TooLong h = absurd (true≢false (sym h))
 
 -- ---- one query a word, and none for a word that is remembered
 
@@ -105,8 +113,8 @@ still_in n ps x m =
     let k = kept_in (λ (z : Pending). not (eqb z.query.id n)) ps x m in
     (k.0, eqb-false x.query.id n (not-true (eqb x.query.id n) k.1))
 
-few_heard : (r : Rules) (now : ℕ) (ps : List Pending) (st : State) (p : Pending) (made : Entry) (es : List Entry) → Memᴰ p st.pending → made.apex ≡ p.query.apex → made.name ≡ p.query.name → made.kind ≡ p.query.kind → Cached r st made es → Fewer r st → Few-pending r st.now es (close_in p.query.id st.pending)
-few_heard r now ps st p made es m a n k c few =
+few_heard : (r : Rules) (st : State) (p : Pending) (made : Entry) (es : List Entry) → Memᴰ p st.pending → made.apex ≡ p.query.apex → made.name ≡ p.query.name → made.kind ≡ p.query.kind → Cached r st made es → Fewer r st → Few-pending r st.now es (close_in p.query.id st.pending)
+few_heard r st p made es m a n k c few =
     record {
       one = λ x z i j w. few.one x z (still_in p.query.id st.pending x i).0 (still_in p.query.id st.pending z j).0 w;
       unknown = λ x i. none_remembered r st.now es x.query.kind x.query.apex x.query.name (λ e h. by x (still_in p.query.id st.pending x i) e h (c.members e h.there));
@@ -141,7 +149,7 @@ few_pending r st es (hears {st = s} {es = fs} j y m p f h e) =
     let k = heard_keeps r y s p h f e in
     let c = cached r y s p h (runs r s fs j).1.keys (heard_so r y s p h f e) in
     let c2 : Cached r s (entry_for s.now p.query y.word) k.0 = subst (λ (z : State). Cached r s (entry_for s.now p.query y.word) z.cache) k.1 c in
-    subst (Fewer r) (sym k.1) (few_heard r s.now [] s p (entry_for s.now p.query y.word) k.0 (first_some (λ (z : Pending). eqb z.query.id y.id) s.pending p f).0 refl refl refl c2 (few_pending r s fs j))
+    subst (Fewer r) (sym k.1) (few_heard r s p (entry_for s.now p.query y.word) k.0 (first_some (λ (z : Pending). eqb z.query.id y.id) s.pending p f).0 refl refl refl c2 (few_pending r s fs j))
 few_pending r st es (ticks {st = s} {es = fs} j) = few_ticked r s (few_pending r s fs j)
 few_pending r st es (others {st = s} {es = fs} j e o m) = few_pending r s fs j
 
@@ -172,3 +180,42 @@ module _ (r : Rules) (st : State) (es : List Event) (j : Joint r st es) where
   one_id p z m n e =
       let i = inv r es run.0 in
       i.sent_once p.query z.query (i.pending_sent p.query (in_world p m)) (i.pending_sent z.query (in_world z n)) e
+
+-- ---- a response for another word leaves the way of a question as it was
+
+module _ (r : Rules) (st : State) (es : List Event) (j : Joint r st es) (u : Question) (under_way : Memᴰ u st.walks) (p : Pending) (there : Memᴰ p st.pending) (made : Entry) (apex_is : made.apex ≡ p.query.apex) (name_is : made.name ≡ p.query.name) (kind_is : made.kind ≡ p.query.kind) (cs : List Entry) (c : Cached r st made cs) (other : lacks_for p u.kind (walk_of r st u).end ≡ false) where
+  abbrev f : Source
+  f = remembered r st.now st.cache u.kind
+
+  abbrev g : Source
+  g = remembered r st.now cs u.kind
+
+  in_use_lem : (e : Entry) → Memᴰ e (walk_of r st u).words → in_use r st e ≡ true
+  in_use_lem e m = some_any (used_by r st e) st.walks u under_way (some_any (λ (x : Entry). of_key e x) (walk_of r st u).words e m (key_self e))
+
+  words_stay : Stay f g 24 [] u.name
+  words_stay c' q e m h =
+      let k = held r st.now st.cache u.kind c' q e h in
+      let there2 = c.stays e k.there (not_made e k (of_key made e) refl) (in_use_lem e m) in
+      recalled r st.now cs u.kind c' q e c.one (record { there = there2; counting = k.counting; apex_is = k.apex_is; name_is = k.name_is; kind_is = k.kind_is })
+    where
+      not_made : (e : Entry) → Held r st.now st.cache u.kind c' q e → (b : Bool) → of_key made e ≡ b → of_key made e ≡ false
+      not_made e k false i = i
+      not_made e k true i =
+          let x = key_so made e i in
+          absurd (not_held r st.now st.cache p.query.kind p.query.apex p.query.name ((few_pending r st es j).unknown p there) e
+          (record { there = k.there; counting = k.counting; apex_is = x.apex_is ∙ apex_is; name_is = x.name_is ∙ name_is; kind_is = x.kind_is ∙ kind_is }))
+
+  lack_still : LackStill f g 24 [] u.name
+  lack_still c' q e = none_remembered r st.now cs u.kind c' q (λ x k. by x k (c.members x k.there))
+    where
+      by : (x : Entry) → Held r st.now cs u.kind c' q x → (x ≡ made) ⊎ Memᴰ x st.cache → ⊥
+      by x k (inl i) =
+          let word : Word-of c' q u.kind p = record { apex_is = sym apex_is ∙ sym (ap (λ (y : Entry). y.apex) i) ∙ k.apex_is; name_is = sym name_is ∙ sym (ap (λ (y : Entry). y.name) i) ∙ k.name_is; kind_is = sym kind_is ∙ sym (ap (λ (y : Entry). y.kind) i) ∙ k.kind_is } in
+          true≢false (sym (so_for c' q u.kind p word) ∙ sym (ap (lacks_for p u.kind) e) ∙ other)
+      by x k (inr m) =
+          not_held r st.now st.cache u.kind c' q (lack_none f 24 [] u.name c' q e) x
+          (record { there = m; counting = k.counting; apex_is = k.apex_is; name_is = k.name_is; kind_is = k.kind_is })
+
+  pub way_heard : shown_by r st.now cs u.name u.kind ≡ walk_of r st u
+  way_heard = same_way f g 24 [] u.name words_stay lack_still

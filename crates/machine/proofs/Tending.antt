@@ -1,15 +1,17 @@
 -- How one sees that nothing is left to show or to ask.
-use Rattle.std.proofs.Common.{◌≡◌, ℕ, ◌<◌, Bool, true, false, leb, List, [], ◌∷◌, length, Some, None, Ok, Err, Option, sym, refl, ap, ◌∙◌, ⊎_elim, true≢false}
+use Rattle.std.proofs.Common.{◌≡◌, ℕ, ◌<◌, ◌≤◌, Bool, true, false, leb, List, [], ◌∷◌, length, Some, None, Ok, Err, Option, sym, refl, ap, ◌∙◌, ⊎_elim, true≢false}
 use mathlib.Core.List.Memᴰ
 use mathlib.Core.List.{Memᴰ}
 use Rattle.names.specs.declared.fault.Fault.{Fault}
 use Rattle.names.specs.declared.fault.Fault.TheVariants.{Malformed}
 use Rattle.std.proofs.lemmas.Bool.{cond-true, cond-false, false_from_ne_true, lt-leb}
-use Rattle.protocol.specs.World.{Rules}
+use Rattle.protocol.specs.World.{Rules, Event}
 use Rattle.protocol.proofs.Lists.{some_none, any_none}
 use Rattle.machine.specs.Machine.{max_pending, Question, State, Answer, Standing, Done, Awaits, Wants, standing, shown_as, is_done, settle_on, settle_in, settle, is_waiting, last_of, Sent, send_on, is_pending, draw}
+use Rattle.machine.specs.Refine.{Joint}
 use Rattle.machine.specs.Bounds.{is_awaiting}
 use Rattle.machine.proofs.Lives.{sending_for, waits, none_last, last_at}
+use Rattle.machine.proofs.Places.{place_left}
 use Rattle.machine.proofs.Refining.{ok_is, err_ok}
 
 module _ (r : Rules) (st : State) where
@@ -53,5 +55,9 @@ module _ (r : Rules) (st : State) where
   left_waiting (Awaits a p) h e = refl
   left_waiting (Wants a p ss o) h e = absurd (true≢false e)
 
-  pub all_wait : (settle r st).shown ≡ None → (n : ℕ) (s : Sent) → draw r n st ≡ Ok s → s.query ≡ None → length st.pending < max_pending → (u : Question) → Memᴰ u st.walks → is_awaiting (standing r st u) ≡ true
-  all_wait h n s e none room u m = left_waiting (standing r st u) (none_done h u m) (none_waits n s e none room u m)
+pub all_wait : (r : Rules) (st : State) (es : List Event) → r.patience ≤ 5 → Joint r st es → (settle r st).shown ≡ None → (n : ℕ) (s : Sent) → draw r n st ≡ Ok s → s.query ≡ None → (u : Question) → Memᴰ u st.walks → is_awaiting (standing r st u) ≡ true
+all_wait r st es p j h n s e none u m = left_waiting r st (standing r st u) (none_done r st h u m) (go (waits r st u) refl)
+  where
+    go : (b : Bool) → waits r st u ≡ b → waits r st u ≡ false
+    go false i = i
+    go true i = none_waits r st n s e none (place_left r st es j p u m i) u m

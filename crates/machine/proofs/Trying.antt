@@ -152,6 +152,15 @@ module _ (a p : Name) (at n : ℕ) where
 
   -- ---- ids
 
+  -- the word's try is by this query
+  pub more_found : (ts : List Tried) → (t : Tried) × (tried_of a p (try_more a p at n ts) ≡ Some t) × (t.id ≡ n)
+  more_found =
+      more_cases (λ us vs. (t : Tried) × (tried_of a p vs ≡ Some t) × (t.id ≡ n))
+      (fresh, first_here (is_word a p) fresh [] (so_word a p fresh refl refl), refl)
+      (λ t us e f. (t, first_here (is_word a p) t us e, eqb-true t.id n f))
+      (λ t us e f. (bumped t, first_here (is_word a p) (bumped t) us e, refl))
+      (λ t us e ih. (ih.0, first_there (is_word a p) t (try_more a p at n us) e ∙ ih.1, ih.2))
+
   pub more_ids : (ts : List Tried) (t : Tried) → Memᴰ t (try_more a p at n ts) → Memᴰ t ts ⊎ (t.id ≡ n)
   more_ids ts =
       more_cases (λ us vs. (t : Tried) → Memᴰ t vs → Memᴰ t us ⊎ (t.id ≡ n))

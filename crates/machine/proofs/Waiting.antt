@@ -7,22 +7,18 @@ use Rattle.protocol.specs.Lists.{kept}
 use Rattle.protocol.specs.Words.{Name, Server}
 use Rattle.protocol.specs.World.{Rules, Query, Entry, Event, may_draw, world}
 use Rattle.protocol.specs.Walks.{End, Shows, LacksAt, TooLong, Walk, remembered, shown_by}
-use Rattle.protocol.proofs.Lists.{some_none, some_any, first_some, first_none, kept_in, in_kept}
-use Rattle.protocol.proofs.Settled.{Held, held}
-use Rattle.machine.specs.Machine.{Tried, Question, Pending, State, Nowhere, walk_of, servers_on, is_word, tried_of, too_many, exhausted, is_for, pending_for, is_last, Standing, Done, Awaits, Wants, lacking, standing_by, standing, is_done, used_by, in_use, lacks_for, count_try, Sent, close_in, is_open}
+use Rattle.protocol.proofs.Lists.{some_none, first_some, first_none, kept_in, in_kept}
+use Rattle.machine.specs.Machine.{Tried, Question, Pending, State, Nowhere, walk_of, servers_on, is_word, tried_of, too_many, exhausted, is_for, pending_for, is_last, Standing, Done, Awaits, Wants, lacking, standing_by, standing, is_done, lacks_for, count_try, Sent, close_in, is_open}
 use Rattle.machine.specs.Bounds.{is_awaiting, most}
 use Rattle.machine.specs.Refine.{Joint}
-use Rattle.machine.proofs.Asking.{lack_none}
 use Rattle.machine.proofs.Bounded.{Used, not_new, new_for, spent_up, may_have}
 use Rattle.machine.proofs.Counting.{counts_all, by_counting, counts_none, spent_counts, Tidy}
-use Rattle.machine.proofs.Keys.{of_key, key_so, key_self}
 use Rattle.machine.proofs.Lives.{Sending, counted_by, closing}
 use Rattle.machine.proofs.Main.{runs}
-use Rattle.machine.proofs.Paths.{Source, recalled}
-use Rattle.machine.proofs.Patient.{Word-of, for_so, so_for, both_for, Few-pending, few_pending, still_in, asked_past, asked_open, one_id}
+use Rattle.machine.proofs.Patient.{Word-of, for_so, so_for, both_for, Few-pending, few_pending, still_in, asked_past, asked_open, one_id, way_heard, lack_of}
 use Rattle.machine.proofs.Standings.{wants_so}
 use Rattle.machine.proofs.Trying.{more_ids, spent, spent_more}
-use Rattle.machine.proofs.Ways.{none_remembered, not_held, Stay, LackStill, same_way, Cut, same_or_cut, fades, Cached}
+use Rattle.machine.proofs.Ways.{Cut, same_or_cut, fades, Cached}
 
 -- ---- from one growth to the next
 
@@ -95,11 +91,6 @@ module _ (r : Rules) (now : ℕ) (cache : List Entry) (ps : List Pending) (u : Q
       }
 
 -- ---- what a question lacks
-
-pub lack_of : (p : Pending) (k : ℕ) (e : End) → lacks_for p k e ≡ true → (a : Name) × (q : Name) × (e ≡ LacksAt a q) × (is_for a q k p ≡ true)
-lack_of p k (LacksAt a q) h = (a, q, refl, h)
-lack_of p k (Shows o) h = absurd (true≢false (sym h))
-lack_of p k TooLong h = absurd (true≢false (sym h))
 
 last_so : (o : Option Tried) (z : Pending) → is_last o z ≡ true → (t : Tried) × (o ≡ Some t) × (t.id ≡ z.query.id)
 last_so None z h = absurd (true≢false (sym h))
@@ -255,42 +246,9 @@ module _ (r : Rules) (small : length r.roots ≤ 32) (st : State) (es : List Eve
 
     -- another word: the way is the same
     module _ (other : lacks_for p u.kind (walk_of r st u).end ≡ false) where
-      abbrev f : Source
-      f = remembered r st.now st.cache u.kind
-
-      abbrev g : Source
-      g = remembered r st.now cs u.kind
-
-      in_use_lem : (e : Entry) → Memᴰ e (walk_of r st u).words → in_use r st e ≡ true
-      in_use_lem e m = some_any (used_by r st e) st.walks u under_way (some_any (λ (x : Entry). of_key e x) (walk_of r st u).words e m (key_self e))
-
-      words_stay : Stay f g 24 [] u.name
-      words_stay c' q e m h =
-          let k = held r st.now st.cache u.kind c' q e h in
-          let there2 = c.stays e k.there (not_made e k (of_key made e) refl) (in_use_lem e m) in
-          recalled r st.now cs u.kind c' q e c.one (record { there = there2; counting = k.counting; apex_is = k.apex_is; name_is = k.name_is; kind_is = k.kind_is })
-        where
-          not_made : (e : Entry) → Held r st.now st.cache u.kind c' q e → (b : Bool) → of_key made e ≡ b → of_key made e ≡ false
-          not_made e k false i = i
-          not_made e k true i =
-              let x = key_so made e i in
-              absurd (not_held r st.now st.cache p.query.kind p.query.apex p.query.name (few.unknown p there) e
-              (record { there = k.there; counting = k.counting; apex_is = x.apex_is ∙ apex_is; name_is = x.name_is ∙ name_is; kind_is = x.kind_is ∙ kind_is }))
-
-      lack_still : LackStill f g 24 [] u.name
-      lack_still c' q e = none_remembered r st.now cs u.kind c' q (λ x k. by x k (c.members x k.there))
-        where
-          by : (x : Entry) → Held r st.now cs u.kind c' q x → (x ≡ made) ⊎ Memᴰ x st.cache → ⊥
-          by x k (inl i) =
-              let word : Word-of c' q u.kind p = record { apex_is = sym apex_is ∙ sym (ap (λ (y : Entry). y.apex) i) ∙ k.apex_is; name_is = sym name_is ∙ sym (ap (λ (y : Entry). y.name) i) ∙ k.name_is; kind_is = sym kind_is ∙ sym (ap (λ (y : Entry). y.kind) i) ∙ k.kind_is } in
-              true≢false (sym (so_for c' q u.kind p word) ∙ sym (ap (lacks_for p u.kind) e) ∙ other)
-          by x k (inr m) =
-              not_held r st.now st.cache u.kind c' q (lack_none f 24 [] u.name c' q e) x
-              (record { there = m; counting = k.counting; apex_is = k.apex_is; name_is = k.name_is; kind_is = k.kind_is })
-
       heard_other : After u
       heard_other =
-          let same = same_way f g 24 [] u.name words_stay lack_still in
+          let same = way_heard r st es j u under_way p there made apex_is name_is kind_is cs c other in
           record {
             start = w.start;
             limit = w.limit;

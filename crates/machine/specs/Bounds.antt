@@ -4,7 +4,8 @@ use mathlib.Core.List.{Memᴰ}
 use Rattle.protocol.specs.Lists.{first, any}
 use Rattle.protocol.specs.Words.{Name, Server}
 use Rattle.protocol.specs.World.{Rules, Query, Response, Event, Tick, may_draw, world, May}
-use Rattle.machine.specs.Machine.{max_words, max_tries, max_pending, Tried, Question, Pending, State, Answer, first_state, is_word, tried_of, count_of, Standing, Done, Awaits, Wants, standing, shown_as, question, begin, is_done, settle_in, settle, is_waiting, Sent, draw, Heard, hear, tick}
+use Rattle.protocol.specs.Walks.{remembered}
+use Rattle.machine.specs.Machine.{max_walks, max_words, max_tries, max_pending, Tried, Question, Pending, State, Answer, first_state, is_word, tried_of, count_of, Standing, Done, Awaits, Wants, standing, shown_as, question, begin, is_done, settle_in, settle, is_waiting, Sent, draw, Heard, hear, tick}
 use Rattle.machine.specs.Refine.{is_outside, sends, hearing, Joint}
 
 -- ---- one call
@@ -100,8 +101,7 @@ is_awaiting (Done x n) = false
 is_awaiting (Wants a p ss o) = false
 
 -- what is done is shown before an id is drawn, and before a second passes ids are drawn until nothing is wanted: so the
--- question is not done at the one, and waits for a query at the other (while all places for queries are taken, nothing
--- can be drawn; such seconds are not in time)
+-- question is not done at the one, and waits for a query at the other
 abbrev pub in_time : {r : Rules} {st : State} {es : List Event} {st' : State} {es' : List Event} → Call r st es st' es' → Spot → Bool
 in_time {r = r} {st = st} (to_draw n m s e) x = is_none (is_done (standing r st x.asked))
 in_time {r = r} {st = st} to_tick x = is_awaiting (standing r st x.asked)
@@ -180,10 +180,17 @@ pub record MachineBounds : Type 0 where
   pub each_counts : (r : Rules) → length r.roots ≤ 32 → (st : State) (es : List Event) (st' : State) (es' : List Event) (x y : Spot) (m n : ℕ) → Life r st es x m n → (c : Call r st es st' es') → Stays r st es st' es' c x y → sent_for c x ≡ 1 → Counted r st x.asked y.asked
   -- and at most two for each server of 24 words are sent: 768, if the root has no more than 16 servers
   pub sent_few : (r : Rules) → length r.roots ≤ 32 → (st : State) (es : List Event) (x : Spot) (m n : ℕ) → Life r st es x m n → m ≤ max_words * (max_tries * most r)
-  -- a machine can be looked after by what it shows: where nothing is shown, no question is done; and where an id that has
-  -- a place is not used, every question waits for a query
+  -- at most one query is pending for a word, and none for a word that is remembered and counts
+  pub one_pending : (r : Rules) (st : State) (es : List Event) → Joint r st es → (x z : Pending) → Memᴰ x st.pending → Memᴰ z st.pending → z.query.apex ≡ x.query.apex → z.query.name ≡ x.query.name → z.query.kind ≡ x.query.kind → x ≡ z
+  pub none_known : (r : Rules) (st : State) (es : List Event) → Joint r st es → (x : Pending) → Memᴰ x st.pending → remembered r st.now st.cache x.query.kind x.query.apex x.query.name ≡ None
+  -- so no more are pending than questions are under way, and 16 for each second of patience: where a question wants a
+  -- query, one of the 96 places is free
+  pub places : (r : Rules) (st : State) (es : List Event) → Joint r st es → length st.pending ≤ max_walks * r.patience + length st.walks
+  pub place_left : (r : Rules) (st : State) (es : List Event) → r.patience ≤ 5 → Joint r st es → (u : Question) → Memᴰ u st.walks → is_waiting (standing r st u) ≡ true → length st.pending < max_pending
+  -- a machine is looked after by what it shows: where nothing is shown no question is done, and where besides a drawn id
+  -- isn't used every question waits for a query
   pub none_done : (r : Rules) (st : State) → (settle r st).shown ≡ None → (u : Question) → Memᴰ u st.walks → is_done (standing r st u) ≡ None
-  pub all_wait : (r : Rules) (st : State) → (settle r st).shown ≡ None → (n : ℕ) (s : Sent) → draw r n st ≡ Ok s → s.query ≡ None → length st.pending < max_pending → (u : Question) → Memᴰ u st.walks → is_awaiting (standing r st u) ≡ true
+  pub all_wait : (r : Rules) (st : State) (es : List Event) → r.patience ≤ 5 → Joint r st es → (settle r st).shown ≡ None → (n : ℕ) (s : Sent) → draw r n st ≡ Ok s → s.query ≡ None → (u : Question) → Memᴰ u st.walks → is_awaiting (standing r st u) ≡ true
   -- if it is looked after, a question ends: there are at most two waits for a query, of a patience each, from one growth
   -- of a count to the next; that is 8,454 seconds, if the root has no more than 16 servers and the patience is five seconds
   pub ends_soon : (r : Rules) → length r.roots ≤ 32 → (st : State) (es : List Event) (x : Spot) (m n : ℕ) → (l : Life r st es x m n) → Tended l → n ≤ max_words * (max_tries * most r) * (2 * r.patience + 1) + (r.patience + 1)
