@@ -6,7 +6,7 @@ use Rattle.machine.proofs.Ending.{ends_soon}
 use Rattle.machine.proofs.Lives.{calls, only_calls, one_place, onward, ends, in_run, sent_for_one}
 use Rattle.machine.proofs.Patient.{few_pending}
 use Rattle.machine.proofs.Places.{places, place_left}
-use Rattle.machine.proofs.Tending.{none_done, all_wait}
+use Rattle.machine.proofs.Tending.{none_done, all_wait, fewer_left, fewer_want, still_none}
 
 pub machine_bounds : MachineBounds
 machine_bounds = record {
@@ -27,5 +27,8 @@ machine_bounds = record {
   place_left = λ r st es l j u m w. place_left r st es j l u m w;
   none_done = none_done;
   all_wait = all_wait;
+  fewer_left = fewer_left;
+  fewer_want = fewer_want;
+  still_none = still_none;
   ends_soon = ends_soon;
 }

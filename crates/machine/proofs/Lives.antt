@@ -14,7 +14,7 @@ use Rattle.protocol.proofs.Lists.{some_is, some_none, any_none}
 use Rattle.machine.specs.Machine as machine
 use Rattle.machine.specs.Machine.{max_walks, max_pending, Tried, Question, Pending, State, Answer, Nowhere, Shown, Standing, Done, Awaits, Wants, standing, shown_as, with_walks, question, Began, begin_by, begin, is_done, Settled, settle_on, settle_in, settle, tried_of, count_try, count_tries, place_for, last_of, is_waiting, Sent, send, send_for, send_on, is_pending, draw, Heard, keep, is_open, count_all, tick}
 use Rattle.machine.specs.Refine.{is_outside, sends, hearing, Joint, starts, begins, settles, draws, hears, ticks, others}
-use Rattle.machine.specs.Bounds.{Call, to_begin, to_settle, to_draw, to_hear, to_tick, by_others, Comes, at_start, by_call, Spot, all_of, shows_it, still_before, Stays, is_next, Life, begun, goes_on, SentFor, EndsNow}
+use Rattle.machine.specs.Bounds.{Call, to_begin, to_settle, to_draw, to_hear, to_tick, by_others, Comes, at_start, by_call, Spot, all_of, shows_it, still_before, Stays, is_next, Life, begun, goes_on, SentFor, EndsNow, wants}
 use Rattle.machine.proofs.Refining.{ok_is, err_ok}
 use Rattle.machine.proofs.Heard.{heard_so}
 use Rattle.machine.proofs.Main.{done_is}
@@ -135,9 +135,6 @@ module _ (r : Rules) (st : State) where
 
 -- ---- a query is sent
 
-abbrev pub waits : Rules → State → Question → Bool
-waits r st u = is_waiting (standing r st u)
-
 module _ {A : Type 0} (test : A → Bool) where
   last_none : (xs : List A) → any test xs ≡ false → last_of test xs ≡ None
   unfolding last_of any
@@ -189,7 +186,7 @@ one_last test (x ∷ xs) (y ∷ ys) a b vs ws e f g h k = ap suc (one_last test 
 pub record Sending (r : Rules) (n : ℕ) (st : State) (s : Sent) : Type 0 where
   pub spot : Spot
   pub under_way : st.walks ≡ all_of spot
-  pub none_behind : any (waits r st) spot.behind ≡ false
+  pub none_behind : any (wants r st) spot.behind ≡ false
   pub apex : Name
   pub name : Name
   pub servers : List Server
@@ -203,7 +200,7 @@ abbrev pub NoneSent : State → Sent → Type 0
 NoneSent st s = s ≡ record { state = st; query = None }
 
 module _ (r : Rules) (n : ℕ) (st : State) (s : Sent) where
-  pub sending_for : (u : Question) (front back : List Question) → st.walks ≡ front ++ (u ∷ back) → waits r st u ≡ true → any (waits r st) back ≡ false → (x : Standing) → standing r st u ≡ x → send_for r n st u x ≡ s → Sending r n st s
+  pub sending_for : (u : Question) (front back : List Question) → st.walks ≡ front ++ (u ∷ back) → wants r st u ≡ true → any (wants r st) back ≡ false → (x : Standing) → standing r st u ≡ x → send_for r n st u x ≡ s → Sending r n st s
   sending_for u front back at w none (Wants a p ss o) e h =
       record {
         spot = record { before = front; asked = u; behind = back };
@@ -221,9 +218,9 @@ module _ (r : Rules) (n : ℕ) (st : State) (s : Sent) where
   sending_for u front back at w none (Done x m) e h = absurd (true≢false (sym w ∙ ap is_waiting e))
   sending_for u front back at w none (Awaits a p) e h = absurd (true≢false (sym w ∙ ap is_waiting e))
 
-  sending_on : (o : Option Question) → last_of (waits r st) st.walks ≡ o → send_on r n st o ≡ s → NoneSent st s ⊎ Sending r n st s
+  sending_on : (o : Option Question) → last_of (wants r st) st.walks ≡ o → send_on r n st o ≡ s → NoneSent st s ⊎ Sending r n st s
   sending_on None e h = inl (sym h)
-  sending_on (Some u) e h = let k = last_at (waits r st) st.walks u e in inr (sending_for u k.0 k.1 k.2 k.3 k.4 (standing r st u) refl h)
+  sending_on (Some u) e h = let k = last_at (wants r st) st.walks u e in inr (sending_for u k.0 k.1 k.2 k.3 k.4 (standing r st u) refl h)
 
   pub drew_so : draw r n st ≡ Ok s → NoneSent st s ⊎ Sending r n st s
   unfolding draw
@@ -231,10 +228,10 @@ module _ (r : Rules) (n : ℕ) (st : State) (s : Sent) where
     where
       go : (b : Bool) → is_pending n st.pending ≡ b → (c : Bool) → leb max_pending (length st.pending) ≡ c → NoneSent st s ⊎ Sending r n st s
       go true e c f = absurd (err_ok Malformed s (sym (cond-true (is_pending n st.pending) (Err Malformed) _ e) ∙ h))
-      go false e true f = inl (sym (ok_is {B = Fault} (record { state = st; query = None }) s (sym (cond-false (is_pending n st.pending) (Err Malformed) _ e ∙ cond-true (leb max_pending (length st.pending)) (Ok (record { state = st; query = None })) (Ok (send_on r n st (last_of (waits r st) st.walks))) f) ∙ h)))
+      go false e true f = inl (sym (ok_is {B = Fault} (record { state = st; query = None }) s (sym (cond-false (is_pending n st.pending) (Err Malformed) _ e ∙ cond-true (leb max_pending (length st.pending)) (Ok (record { state = st; query = None })) (Ok (send_on r n st (last_of (wants r st) st.walks))) f) ∙ h)))
       go false e false f =
-          sending_on (last_of (waits r st) st.walks) refl
-          (ok_is {B = Fault} (send_on r n st (last_of (waits r st) st.walks)) s (sym (cond-false (is_pending n st.pending) (Err Malformed) _ e ∙ cond-false (leb max_pending (length st.pending)) (Ok (record { state = st; query = None })) (Ok (send_on r n st (last_of (waits r st) st.walks))) f) ∙ h))
+          sending_on (last_of (wants r st) st.walks) refl
+          (ok_is {B = Fault} (send_on r n st (last_of (wants r st) st.walks)) s (sym (cond-false (is_pending n st.pending) (Err Malformed) _ e ∙ cond-false (leb max_pending (length st.pending)) (Ok (record { state = st; query = None })) (Ok (send_on r n st (last_of (wants r st) st.walks))) f) ∙ h))
 
 -- ---- a second passes
 
@@ -413,20 +410,20 @@ sent_for_one r st n s q e h = go (drew_so r n st s e)
         record {
           spot = k.spot;
           under_way = k.under_way;
-          next_one = and_from (waits r st k.spot.asked) (not (any (waits r st) k.spot.behind)) (ap is_waiting k.wanted) (not_from_false (any (waits r st) k.spot.behind) k.none_behind);
+          next_one = and_from (wants r st k.spot.asked) (not (any (wants r st) k.spot.behind)) (ap is_waiting k.wanted) (not_from_false (any (wants r st) k.spot.behind) k.none_behind);
           servers = k.servers;
           wanted = k.wanted ∙ ap (Wants k.apex k.name k.servers) w.tried_is ∙ (λ j. Wants (a j) (p j) k.servers (tried_of (a j) (p j) k.spot.asked.tries));
           kind_is = sym (ap (λ (z : Query). z.kind) i);
           only = λ x at next.
-              let f = and_parts (waits r st x.asked) (not (any (waits r st) x.behind)) next in
-              let e = one_last (waits r st) x.before k.spot.before x.asked k.spot.asked x.behind k.spot.behind (sym at ∙ k.under_way) f.0 (ap is_waiting k.wanted) (not-true (any (waits r st) x.behind) f.1) k.none_behind in
+              let f = and_parts (wants r st x.asked) (not (any (wants r st) x.behind)) next in
+              let e = one_last (wants r st) x.before k.spot.before x.asked k.spot.asked x.behind k.spot.behind (sym at ∙ k.under_way) f.0 (ap is_waiting k.wanted) (not-true (any (wants r st) x.behind) f.1) k.none_behind in
               one_spot x k.spot (sym at ∙ k.under_way) e;
         }
 
 -- whose turn it is, it is sent for
 pub turn_is : (r : Rules) (n : ℕ) (st : State) (s : Sent) (x : Spot) → st.walks ≡ all_of x → is_next r st x ≡ true → (k : Sending r n st s) → x.asked ≡ k.spot.asked
 turn_is r n st s x at next k =
-    let h = and_parts (waits r st x.asked) (not (any (waits r st) x.behind)) next in
+    let h = and_parts (wants r st x.asked) (not (any (wants r st) x.behind)) next in
     some_is x.asked k.spot.asked
-    (sym (last_here (waits r st) x.before x.asked x.behind h.0 (not-true (any (waits r st) x.behind) h.1)) ∙ ap (last_of (waits r st)) (sym at ∙ k.under_way)
-    ∙ last_here (waits r st) k.spot.before k.spot.asked k.spot.behind (ap is_waiting k.wanted) k.none_behind)
+    (sym (last_here (wants r st) x.before x.asked x.behind h.0 (not-true (any (wants r st) x.behind) h.1)) ∙ ap (last_of (wants r st)) (sym at ∙ k.under_way)
+    ∙ last_here (wants r st) k.spot.before k.spot.asked k.spot.behind (ap is_waiting k.wanted) k.none_behind)

@@ -156,7 +156,7 @@ pub record Placed (r : Rules) (st : State) : Type 0 where
 
 -- it is not done while that is pending
 module _ (r : Rules) (st : State) (es : List Event) (j : Joint r st es) (x : Pending) (there : Memᴰ x st.pending) (o : Owner r st x) where
-  own_stands : is_done (standing r st o.asked) ≡ None
+  pub own_stands : is_done (standing r st o.asked) ≡ None
   unfolding standing
   own_stands = by (lack_of x o.asked.kind (walk_of r st o.asked).end o.lacks)
     where

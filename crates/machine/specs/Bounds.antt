@@ -1,11 +1,11 @@
 -- How many queries one question may cost, and in how many seconds it ends. Assumes nothing.
 use Rattle.std.specs.Prelude.{◌≡◌, ℕ, ◌+◌, ◌*◌, ◌<◌, ◌≤◌, max, Bool, true, false, cond, not, ◌&&◌, List, [], ◌∷◌, ◌++◌, length, Some, None, Ok, Option, is_some, is_none, nat_eq}
 use mathlib.Core.List.{Memᴰ}
-use Rattle.protocol.specs.Lists.{first, any}
+use Rattle.protocol.specs.Lists.{first, kept, any}
 use Rattle.protocol.specs.Words.{Name, Server}
 use Rattle.protocol.specs.World.{Rules, Query, Response, Event, Tick, may_draw, world, May}
 use Rattle.protocol.specs.Walks.{remembered}
-use Rattle.machine.specs.Machine.{max_walks, max_words, max_tries, max_pending, Tried, Question, Pending, State, Answer, first_state, is_word, tried_of, count_of, Standing, Done, Awaits, Wants, standing, shown_as, question, begin, is_done, settle_in, settle, is_waiting, Sent, draw, Heard, hear, tick}
+use Rattle.machine.specs.Machine.{max_walks, max_words, max_tries, max_pending, Tried, Question, Pending, State, Answer, Shown, first_state, is_word, tried_of, count_of, Standing, Done, Awaits, Wants, standing, shown_as, question, begin, is_done, settle_in, settle, is_waiting, Sent, draw, Heard, hear, tick}
 use Rattle.machine.specs.Refine.{is_outside, sends, hearing, Joint}
 
 -- ---- one call
@@ -59,9 +59,12 @@ pub record Stays (r : Rules) (st : State) (es : List Event) (st' : State) (es' :
   pub walks_are : st'.walks ≡ all_of y
   pub place_is : length y.before ≡ still_before c x.before
 
+abbrev pub wants : Rules → State → Question → Bool
+wants r st u = is_waiting (standing r st u)
+
 -- a drawn id goes to it: it wants a query, and none behind it does
 abbrev pub is_next : Rules → State → Spot → Bool
-is_next r st x = is_waiting (standing r st x.asked) && not (any (λ v. is_waiting (standing r st v)) x.behind)
+is_next r st x = wants r st x.asked && not (any (wants r st) x.behind)
 
 abbrev pub one_if : Bool → Option Query → ℕ
 one_if b None = 0
@@ -178,7 +181,7 @@ pub record MachineBounds : Type 0 where
   pub few_words : (r : Rules) (st : State) (es : List Event) (x : Spot) (m n : ℕ) → Life r st es x m n → (length x.asked.tries ≤ max_words) × (one_a_word x.asked.tries ≡ true)
   -- a count stops at 64, so the root may have at most 32 servers: then each query sent for a question is counted
   pub each_counts : (r : Rules) → length r.roots ≤ 32 → (st : State) (es : List Event) (st' : State) (es' : List Event) (x y : Spot) (m n : ℕ) → Life r st es x m n → (c : Call r st es st' es') → Stays r st es st' es' c x y → sent_for c x ≡ 1 → Counted r st x.asked y.asked
-  -- and at most two for each server of 24 words are sent: 768, if the root has no more than 16 servers
+  -- so at most two for each server of 24 words are sent: 768, if the root has no more than 16 servers
   pub sent_few : (r : Rules) → length r.roots ≤ 32 → (st : State) (es : List Event) (x : Spot) (m n : ℕ) → Life r st es x m n → m ≤ max_words * (max_tries * most r)
   -- at most one query is pending for a word, and none for a word that is remembered and counts
   pub one_pending : (r : Rules) (st : State) (es : List Event) → Joint r st es → (x z : Pending) → Memᴰ x st.pending → Memᴰ z st.pending → z.query.apex ≡ x.query.apex → z.query.name ≡ x.query.name → z.query.kind ≡ x.query.kind → x ≡ z
@@ -186,11 +189,16 @@ pub record MachineBounds : Type 0 where
   -- so no more are pending than questions are under way, and 16 for each second of patience: where a question wants a
   -- query, one of the 96 places is free
   pub places : (r : Rules) (st : State) (es : List Event) → Joint r st es → length st.pending ≤ max_walks * r.patience + length st.walks
-  pub place_left : (r : Rules) (st : State) (es : List Event) → r.patience ≤ 5 → Joint r st es → (u : Question) → Memᴰ u st.walks → is_waiting (standing r st u) ≡ true → length st.pending < max_pending
-  -- a machine is looked after by what it shows: where nothing is shown no question is done, and where besides a drawn id
-  -- isn't used every question waits for a query
+  pub place_left : (r : Rules) (st : State) (es : List Event) → r.patience ≤ 5 → Joint r st es → (u : Question) → Memᴰ u st.walks → wants r st u ≡ true → length st.pending < max_pending
+  -- a machine is looked after by what it shows: where nothing is shown no question is done, and where a drawn id isn't
+  -- used either every question waits for a query
   pub none_done : (r : Rules) (st : State) → (settle r st).shown ≡ None → (u : Question) → Memᴰ u st.walks → is_done (standing r st u) ≡ None
   pub all_wait : (r : Rules) (st : State) (es : List Event) → r.patience ≤ 5 → Joint r st es → (settle r st).shown ≡ None → (n : ℕ) (s : Sent) → draw r n st ≡ Ok s → s.query ≡ None → (u : Question) → Memᴰ u st.walks → is_awaiting (standing r st u) ≡ true
-  -- if it is looked after, a question ends: there are at most two waits for a query, of a patience each, from one growth
-  -- of a count to the next; that is 8,454 seconds, if the root has no more than 16 servers and the patience is five seconds
+  -- and both come about: each question that is shown leaves fewer under way, and each query that is sent leaves fewer that
+  -- want one, and makes none done
+  pub fewer_left : (r : Rules) (st : State) (x : Shown) → (settle r st).shown ≡ Some x → length (settle r st).state.walks < length st.walks
+  pub fewer_want : (r : Rules) (st : State) (n : ℕ) (s : Sent) (q : Query) → draw r n st ≡ Ok s → s.query ≡ Some q → length (kept (wants r s.state) s.state.walks) < length (kept (wants r st) st.walks)
+  pub still_none : (r : Rules) (st : State) (es : List Event) → Joint r st es → (settle r st).shown ≡ None → (n : ℕ) → may_draw n (world r es) ≡ true → (s : Sent) → draw r n st ≡ Ok s → (settle r s.state).shown ≡ None
+  -- if it is looked after, a question ends: at most twice the patience and a second lie between one growth of its counts
+  -- and the next. That is 8,454 seconds, if the root has no more than 16 servers and the patience is five seconds
   pub ends_soon : (r : Rules) → length r.roots ≤ 32 → (st : State) (es : List Event) (x : Spot) (m n : ℕ) → (l : Life r st es x m n) → Tended l → n ≤ max_words * (max_tries * most r) * (2 * r.patience + 1) + (r.patience + 1)

@@ -23,7 +23,8 @@ pub fn machine_lives()
     ensures { MachineLive }
 {}
 
-// For one question at most two queries for each server of 24 words are sent, and it ends within a bounded time.
+// For one question at most two queries are sent for each server of 24 words, and it ends within a bounded time if what is
+// done is shown and what is wanted is asked before each second passes, for which there is always a place.
 pub fn machine_bounds()
     ensures { MachineBounds }
 {}
