@@ -209,7 +209,7 @@ kept_least {A} test (x ∷ xs) = go (test x) refl (kept_least test xs)
     go false e ih = let l = ap length (cond-false (test x) (x ∷ kept test xs) (kept test xs) e) in omega arith
 
 -- a last element that is dropped
-kept_snoc : {A : Type 0} (test : A → Bool) (xs : List A) (x : A) → test x ≡ false → kept test (xs ++ (x ∷ [])) ≡ kept test xs
+pub kept_snoc : {A : Type 0} (test : A → Bool) (xs : List A) (x : A) → test x ≡ false → kept test (xs ++ (x ∷ [])) ≡ kept test xs
 unfolding kept
 kept_snoc test [] x h = cond-false (test x) (x ∷ []) [] h
 kept_snoc test (y ∷ ys) x h = ap (λ zs. cond (test y) (y ∷ zs) zs) (kept_snoc test ys x h)

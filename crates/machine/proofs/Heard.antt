@@ -29,7 +29,7 @@ pub record HeardSo (r : Rules) (y : Response) (st : State) (x : Pending) (h : He
   pub stored : ((es : List Entry) × (put r (in_use r st) (entry_for st.now x.query y.word) st.cache ≡ Kept es) × (h.state ≡ keep r st x es))
       ⊎ ((i : ℕ) × (es : List Entry) × (put r (in_use r st) (entry_for st.now x.query y.word) st.cache ≡ Ousted i es) × (h.state ≡ keep r st x es))
 
-abbrev Stored : Rules → Response → State → Pending → Heard → Type 0
+abbrev pub Stored : Rules → Response → State → Pending → Heard → Type 0
 Stored r y st x h =
     ((es : List Entry) × (put r (in_use r st) (entry_for st.now x.query y.word) st.cache ≡ Kept es) × (h.state ≡ keep r st x es))
     ⊎ ((i : ℕ) × (es : List Entry) × (put r (in_use r st) (entry_for st.now x.query y.word) st.cache ≡ Ousted i es) × (h.state ≡ keep r st x es))

@@ -11,3 +11,14 @@ pub mod Paths
 pub mod Asking
 pub mod Going
 pub mod Live
+pub mod Trying
+pub mod Lives
+pub mod Counting
+pub mod Bounded
+pub mod Ways
+pub mod Patient
+pub mod Places
+pub mod Tending
+pub mod Waiting
+pub mod Ending
+pub mod Bounds

@@ -53,7 +53,7 @@ from_done r st x u a n e d =
       done = d;
     }
 
-done_is : (x : Standing) (a : Answer) (n : ℕ) → is_done x ≡ Some (a, n) → x ≡ Done a n
+pub done_is : (x : Standing) (a : Answer) (n : ℕ) → is_done x ≡ Some (a, n) → x ≡ Done a n
 done_is (Done b m) a n h = let e = some_is (b, m) (a, n) h in λ i. Done (e i).0 (e i).1
 done_is (Awaits b p) a n h = absurd (some_none (a, n) h)
 done_is (Wants b p ss o) a n h = absurd (some_none (a, n) h)

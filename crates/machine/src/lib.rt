@@ -1,6 +1,7 @@
 // The resolver as a machine, and the proof that it is the resolver of the protocol. No code, only theorems.
 #![tactic(auto)]
 
+ghost use Rattle.machine.specs.Bounds.{MachineBounds};
 ghost use Rattle.machine.specs.Live.{MachineLive};
 ghost use Rattle.machine.specs.Refine.{MachineRefines};
 ghost use Rattle.machine.specs.Store.{StoreLaws};
@@ -20,4 +21,10 @@ pub fn store_laws()
 // itself asks what it should, and shows what is meant.
 pub fn machine_lives()
     ensures { MachineLive }
+{}
+
+// For one question at most two queries are sent for each server of 24 words, and it ends within a bounded time if what is
+// done is shown and what is wanted is asked before each second passes, for which there is always a place.
+pub fn machine_bounds()
+    ensures { MachineBounds }
 {}
