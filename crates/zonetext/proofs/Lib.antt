@@ -1,3 +1,5 @@
 mod Lining
 mod Runs
 mod Dividing
+mod Serials
+mod Loading

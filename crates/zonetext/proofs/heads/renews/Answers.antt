@@ -1,18 +1,23 @@
-use Rattle.std.proofs.Common.{rules, ◌≡◌, Some, None, map, MatchResult, ℕ, ◌+◌, ◌-◌, ◌*◌, ◌<◌, ◌≤◌, length, ◌/◌, ◌%◌, Bool, true, false, nat_eq, nat_lt, List, [], ◌∷◌, ◌++◌, slice_index_or, slice_set, bit_and, bit_or, Fits, w8, w32, w64, Bor, MutBor}
-use Rattle.std.specs.Option.{option_map}
-use Rattle.names.specs.declared.fault.Fault.TheVariants.{Malformed}
-use Rattle.names.specs.Names.{labels, given}
-use Rattle.records.specs.Numbers.{serial_given}
+use Rattle.std.proofs.Common.{◌≡◌, Some, sym, ap, ◌∙◌}
+use Rattle.std.proofs.lemmas.Bool.{not-true, not-false}
+use Rattle.names.specs.Names.{labels}
+use Rattle.meaning.proofs.Rules.{told_same}
 use Rattle.zones.specs.Zones.{zone_of}
-use Rattle.zonetext.specs.Texts.{fields, top_of, renews, serial_of, times_of}
-use Rattle.zonetext.specs.Readings.{piece_of}
-use Rattle.zonetext.specs.Heads.{times_given, old_zone}
+use Rattle.zonetext.specs.Texts.{renews}
+use Rattle.zonetext.specs.Heads.{old_zone}
+use Rattle.zonetext.proofs.Serials.{other_apex, same_apex}
 use Rattle.zonetext.proofs.heads.renews.Goals as goal
 
--- src/heads.rt:42:1
 pub returns-then-ne : goal.returns-then-ne
-returns-then-ne c = ?
+returns-then-ne c =
+    let apex = labels c.args.apex.now in
+    c.if-ne.true
+    ∙ sym (ap (λ o. renews (old_zone o) apex c.args.serial.number) c.in-Some.is
+    ∙ other_apex (zone_of c.in-Some.zone.now) (labels c.apex.result.now) apex c.args.serial.number c.apex.ensures (sym (told_same (labels c.apex.result.now) apex) ∙ not-true _ (sym c.if-ne.ensures)))
 
--- src/heads.rt:42:1
 pub returns-else-ne : goal.returns-else-ne
-returns-else-ne c = ?
+returns-else-ne c =
+    let apex = labels c.args.apex.now in
+    c.is_newer_than.ensures
+    ∙ sym (ap (λ o. renews (old_zone o) apex c.args.serial.number) c.in-Some.is
+    ∙ same_apex (zone_of c.in-Some.zone.now) (labels c.apex.result.now) apex c.args.serial.number c.apex.ensures c.serial.result.number c.serial.ensures (sym (told_same (labels c.apex.result.now) apex) ∙ not-false _ (sym c.if-ne.ensures)))
