@@ -1,2 +1,5 @@
 mod Runs
 mod Dividing
+mod Hexadecimal
+mod Taking
+mod BadNames
