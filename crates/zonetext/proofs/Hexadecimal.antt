@@ -1,7 +1,7 @@
 -- Bytes in hexadecimal, read one by one.
 use Rattle.std.proofs.Common.{◌≡◌, ℕ, ◌+◌, ◌-◌, ◌*◌, ◌<◌, ◌≤◌, eqb, List, [], ◌∷◌, ◌++◌, length, get_or, set, take, drop, Some, None, Option, refl, sym, ap, ◌∙◌, append_assoc, arith}
 use Rattle.std.specs.Option.{option_map}
-use Rattle.std.proofs.lemmas.List.{append-nil, drop_more, at_drop_all, take_more_set, take_all, take_rest, length-set}
+use Rattle.std.proofs.lemmas.List.{append-nil, drop_more, at_drop_all, take_more_set, take_all, take_rest}
 use Rattle.std.proofs.lemmas.Bool.{cond-true, eq-eqb}
 use Rattle.zonetext.specs.Division.{Word}
 use Rattle.zonetext.specs.Fields.{digit_of, byte_of, bytes_in, address_of}

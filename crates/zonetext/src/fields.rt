@@ -1,5 +1,5 @@
 // What the pieces of a line stand for: numbers, names and data.
-ghost use Rattle.std.specs.Prelude.{◌≡◌, [], ◌∷◌, map, Some, vec_items};
+ghost use Rattle.std.specs.Prelude.{◌≡◌, [], ◌∷◌, map, vec_items};
 ghost use Rattle.std.specs.Option.{option_map, ok_or};
 ghost use Rattle.names.specs.declared.fault.Fault.TheVariants.{BadData};
 ghost use Rattle.names.specs.Names.{labels, given};
@@ -185,19 +185,17 @@ fn data(heap: Global, kind: Kind, apex: &Name, pieces: &[Piece]) -> Result<Data,
     ensures { Reads content_of (data_of kind.number (labels apex.now) (map piece_of pieces.now)) result }
 {
     if kind == Kind::ADDRESS {
-        return Ok(Data::Addresses(addresses(heap, pieces)?));
-    }
-    if kind == Kind::TEXT {
-        return Ok(Data::Texts(texts(heap, pieces)?));
-    }
-    if kind.is_delegation() {
+        Ok(Data::Addresses(addresses(heap, pieces)?))
+    } else if kind == Kind::TEXT {
+        Ok(Data::Texts(texts(heap, pieces)?))
+    } else if kind.is_delegation() {
         let servers = addresses(heap, pieces)?;
-        return Ok(Data::Delegation(Delegation { servers }));
+        Ok(Data::Delegation(Delegation { servers }))
+    } else if kind.is_alias() {
+        Ok(Data::Alias(alias(apex, pieces)?))
+    } else {
+        Ok(Data::Others(others(heap, pieces)?))
     }
-    if kind.is_alias() {
-        return Ok(Data::Alias(alias(apex, pieces)?));
-    }
-    Ok(Data::Others(others(heap, pieces)?))
 }
 
 // The fields of a set's line: its name, kind and time, and its data. A wrong time is told before a bad name or kind, and these

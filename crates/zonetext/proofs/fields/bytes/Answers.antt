@@ -1,4 +1,4 @@
-use Rattle.std.proofs.Common.{◌≡◌, ◌-◌, ◌≤◌, [], ◌∷◌, ◌++◌, length, get_or, take, drop, inl, vec_items, sym, ap, subst, arith, rules}
+use Rattle.std.proofs.Common.{◌≡◌, ◌-◌, [], ◌∷◌, ◌++◌, length, get_or, take, drop, inl, vec_items, sym, ap, subst, arith, rules}
 use Rattle.std.specs.Option.{ok_or}
 use Rattle.names.specs.declared.fault.Fault.TheVariants.{BadData}
 use Rattle.zonetext.proofs.Hexadecimal.{Reading, one_read, bad_read, all_read, odd_read, two_first}
