@@ -3,3 +3,6 @@ mod Runs
 mod Dividing
 mod Serials
 mod Loading
+mod Hexadecimal
+mod Taking
+mod BadNames

@@ -1,5 +1,5 @@
 // A line divided into words and texts in quotes.
-ghost use Rattle.std.specs.Prelude.{◌≡◌, ◌⊎◌, ◌≤◌, map, take, drop, length, Some, None, MatchResult};
+ghost use Rattle.std.specs.Prelude.{◌≡◌, ◌⊎◌, ◌≤◌, map, take, drop, length, MatchResult};
 ghost use Rattle.names.specs.declared.fault.Fault.TheVariants.{Malformed, NoMemory};
 ghost use Rattle.lines.specs.Lines.{blank, run};
 ghost use Rattle.zonetext.specs.Division.{in_word, in_text, may_end, closed, worded, first_piece, read_part, pieces_of};
@@ -26,7 +26,9 @@ pub fn read_part(line: &[u8]) -> &[u8]
         if *b == b';' && !quoted {
             return &line[..i];
         }
-        quoted = quoted != (*b == b'"');
+        if *b == b'"' {
+            quoted = !quoted;
+        }
     }
     line
 }
