@@ -6,3 +6,4 @@ pub mod Numbered
 pub mod Heads
 pub mod Cuts
 pub mod Loading
+pub mod Checks

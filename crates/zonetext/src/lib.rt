@@ -1,6 +1,7 @@
 // The text of a zone, as its owner writes it: read to its end or to its first fault, and written.
 #![tactic(auto)]
 
+mod checking;
 mod division;
 mod fields;
 mod heads;
@@ -8,5 +9,6 @@ mod numbered;
 mod reading;
 mod refusal;
 
+pub use checking::{DAY, outlasts_a_day, points_nowhere};
 pub use reading::{MAX_TRANSFER, load};
 pub use refusal::Refusal;
