@@ -1,4 +1,6 @@
 // Owners, servers, askers and the net, by one clock.
+ghost use Rattle.std.specs.Prelude.{◌≡◌, ◌+◌, if◌then◌else◌, is_some, IfOk};
+
 use crate::ages::Ages;
 use crate::clock::Clock;
 use crate::ids::Ids;
@@ -85,7 +87,9 @@ impl Valley {
     }
 
     // The query that an asker sends under the next id, if it wants one.
-    fn draw(&mut self, asker: u64) -> Result<Option<Query>, Fault> {
+    fn draw(&mut self, asker: u64) -> Result<Option<Query>, Fault>
+        ensures ids { IfOk result (λ o. self.new.ids.last ≡ (if is_some o then self.old.ids.last + 1 else self.old.ids.last)) }
+    {
         let Some(resolver) = self.askers.get_mut(place_of(asker)) else {
             return Ok(None);
         };

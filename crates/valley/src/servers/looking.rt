@@ -1,5 +1,5 @@
 // Looking for newer versions.
-ghost use Rattle.std.specs.Prelude.{◌≡◌};
+ghost use Rattle.std.specs.Prelude.{◌≡◌, ◌+◌, ◌<◌, ◌^◌};
 ghost use Rattle.names.specs.Names.{labels};
 ghost use Rattle.valley.specs.Owning.{published_by};
 ghost use Rattle.valley.specs.Having.{had, had_of, had_in, kept_by, is_before, later_of, zone_had, wait_for, Looked};
@@ -55,6 +55,7 @@ impl Servers {
     fn looked(&self, owners: &Owners, keeping: &Keeping, now: Moment) -> Keeping
         ensures of { (result.server ≡ keeping.now.server) × (labels result.apex ≡ labels keeping.now.apex) }
         ensures copied { Looked (had now.0 (published_by owners.now) (kept_by self.now) (labels keeping.now.apex)) keeping.now.server (had_in keeping.now.copied) (had_in result.copied) }
+        ensures next_look { now.0 + wait_for (zone_had now.0 (published_by owners.now) (labels keeping.now.apex) (had_in result.copied)) < 2 ^ 64 → result.next_look.0 ≡ now.0 + wait_for (zone_had now.0 (published_by owners.now) (labels keeping.now.apex) (had_in result.copied)) }
     {
         let apex = &keeping.apex;
         let offer = self.nearest(owners, keeping.server, apex, now);
