@@ -1,4 +1,8 @@
 // Packets, numbered from 1 in the order in which they were sent. A packet stays, and may be brought again.
+ghost use Rattle.std.specs.Prelude.{◌≡◌, ℕ, ◌+◌, [], ◌∷◌, ◌++◌, length, IfOk};
+ghost use Rattle.std.specs.List.{slice_get};
+ghost use Rattle.std.specs.Option.{option_map};
+
 use cache::{Moment, QueryId, Word};
 use names::{Fault, Name};
 use questions::Query;
@@ -81,12 +85,16 @@ impl Net {
     }
 
     // The packet's number.
-    pub fn send(&mut self, packet: Packet) -> Result<u64, Fault> {
+    pub fn send(&mut self, packet: Packet) -> Result<u64, Fault>
+        ensures { IfOk result (λ n. (self.new.packets.items ≡ self.old.packets.items ++ packet ∷ []) × (n ≡ length self.new.packets.items)) }
+    {
         self.packets.push(packet)?;
         Ok(self.packets.len() as u64)
     }
 
-    pub fn get(&self, number: u64) -> Option<&Packet> {
+    pub fn get(&self, number: u64) -> Option<&Packet>
+        ensures { (i : ℕ) → number ≡ i + 1 → option_map (λ p. p.now) result ≡ slice_get self.now.packets.items i }
+    {
         let place = usize::try_from(number.checked_sub(1)?).ok()?;
         self.packets.get(place)
     }
