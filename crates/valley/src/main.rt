@@ -1,4 +1,5 @@
-// Plays a script from standard input, up to its end or its first faulty line.
+// Plays a script from standard input, up to its end or its first faulty line: `valley [FOLDER]`, where the zones' texts stand
+// in FOLDER, or where it is started.
 #![tactic(auto)]
 
 mod ages;
@@ -7,9 +8,9 @@ mod ids;
 mod net;
 mod owners;
 mod print;
-mod sample;
 mod servers;
 mod stop;
+mod texts;
 mod valley;
 mod walk;
 
@@ -17,17 +18,28 @@ use crate::valley::Valley;
 use print::report;
 use script::read_command;
 use std::alloc::Global;
-use std::io;
 use std::io::{BufRead, BufReader};
+use std::{env, io};
 use stop::Stop;
+use texts::Texts;
 
 fn play_line(rt: &HostRuntime, valley: &mut Valley, line: u64, bytes: &[u8]) -> Result<(), Stop> {
     let command = read_command(rt.alloc(), bytes)?;
     valley.play(rt, line, command)
 }
 
+fn folder(rt: &HostRuntime, heap: Global) -> io::Result<String> {
+    let mut args = env::args(rt)?;
+    let _program = args.next();
+    match args.next() {
+        Some(folder) => Ok(folder),
+        None => Ok(".".to_string(heap)?),
+    }
+}
+
 fn run(rt: &HostRuntime, heap: Global) -> io::Result<()> {
-    let mut valley = match Valley::new(heap) {
+    let texts = Texts::new(folder(rt, heap)?);
+    let mut valley = match Valley::new(heap, texts) {
         Ok(valley) => valley,
         Err(fault) => return report(rt, 0, fault),
     };

@@ -8,6 +8,7 @@ use records::{Address, Data};
 use resolver::{Answer, Resolver, Shown};
 use std::io;
 use walks::walk;
+use zonetext::Refusal;
 
 pub fn report(rt: &HostRuntime, line: u64, fault: Fault) -> io::Result<()> {
     match fault {
@@ -144,4 +145,11 @@ pub fn print_way(
         }
     }
     Ok(())
+}
+
+// A zone's text that isn't published: its first faulty line, and its fault.
+pub fn print_refusal(rt: &HostRuntime, line: u64, file: &str, refusal: &Refusal) -> io::Result<()> {
+    let inner = refusal.line;
+    let fault = refusal.fault;
+    println!(rt; "line {line}: {file} line {inner}: {fault}")
 }

@@ -6,10 +6,10 @@ use crate::clock::Clock;
 use crate::ids::Ids;
 use crate::net::{Asked, Net, Packet, Told};
 use crate::owners::Owners;
-use crate::print::{print_meaning, print_packet, print_shown, print_way, report};
-use crate::sample;
+use crate::print::{print_meaning, print_packet, print_refusal, print_shown, print_way, report};
 use crate::servers::{OWNERS_SERVER, Servers};
 use crate::stop::Stop;
+use crate::texts::Texts;
 use crate::walk::meant;
 use cache::Moment;
 use names::{Fault, Name};
@@ -19,6 +19,8 @@ use resolver::{Heard, MAX_WALKS, Resolver, Shown};
 use script::Command;
 use std::alloc::Global;
 use std::io;
+use zones::Zone;
+use zonetext::{Refusal, apex_of, load};
 
 // Boxes are counted behind them.
 const ASKERS: u64 = 4;
@@ -26,6 +28,7 @@ const ASKERS: u64 = 4;
 #[derive(Drop)]
 pub struct Valley {
     clock: Clock,
+    texts: Texts,
     owners: Owners,
     servers: Servers,
     // By their numbers, from 1.
@@ -49,9 +52,10 @@ fn place_of(asker: u64) -> usize {
 }
 
 impl Valley {
-    pub fn new(heap: Global) -> Result<Valley, Fault> {
+    pub fn new(heap: Global, texts: Texts) -> Result<Valley, Fault> {
         Ok(Valley {
             clock: Clock::new(),
+            texts,
             owners: Owners::new(heap),
             servers: Servers::new(heap),
             askers: askers(heap)?,
@@ -222,13 +226,22 @@ impl Valley {
         self.all_go_on(rt)
     }
 
-    // A serial that doesn't rise is told, and changes nothing.
+    // The zone that a text means, in the place of the one that its owner says now.
+    fn zone_in(&self, heap: Global, text: &[u8]) -> Result<Zone, Refusal> {
+        let apex = apex_of(heap, text)?;
+        load(heap, self.owners.current(&apex), text)
+    }
+
+    // A faulty text is told with its line, and changes nothing.
     fn publish(&mut self, rt: &HostRuntime, line: u64, file: &[u8]) -> Result<(), Stop> {
-        let zone = sample::zone(rt.alloc(), file)?;
-        let now = self.now();
-        match self.owners.publish(now, zone) {
-            Err(Fault::StaleSerial) => report(rt, line, Fault::StaleSerial)?,
-            published => published?,
+        let file = String::from_utf8_lossy(rt.alloc(), file)?;
+        let text = self.texts.read(rt, file.as_str())?;
+        match self.zone_in(rt.alloc(), text.as_slice()) {
+            Ok(zone) => {
+                let now = self.now();
+                self.owners.publish(now, zone)?;
+            }
+            Err(refusal) => print_refusal(rt, line, file.as_str(), &refusal)?,
         }
         Ok(())
     }
