@@ -6,3 +6,5 @@ pub mod Numbered
 pub mod Heads
 pub mod Cuts
 pub mod Loading
+pub mod Written
+pub mod TextLaws
