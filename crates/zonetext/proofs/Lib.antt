@@ -1,3 +1,4 @@
 mod Lining
 mod Runs
 mod Dividing
+mod Pieced

@@ -7,7 +7,7 @@ use Rattle.meaning.specs.Transfer.{all_transferred}
 use Rattle.zones.specs.Sorted.{sorted}
 use Rattle.zones.specs.Valid.{valid}
 use Rattle.zonetext.specs.Division.{Piece, Word, Text, in_word, pieces_of}
-use Rattle.zonetext.specs.Texts.{fields, text_meaning}
+use Rattle.zonetext.specs.Texts.{fields, renews, text_meaning}
 use Rattle.zonetext.specs.Written.{holds_text, line_text, holds, written_zone}
 
 -- ---- a zone as its type has it
@@ -49,7 +49,7 @@ holds_piece (Text t) = holds_text t
 pub record TextLaws : Type 0 where
   -- pieces that were written as a line are read as those pieces
   pub line : (verb : List ℕ) (ps : List Piece) → holds_word verb ≡ true → list_all holds_piece ps ≡ true → length (line_text verb ps) ≤ 1200 → fields verb (pieces_of (line_text verb ps)) ≡ Some ps
-  -- a zone that was written is read as that zone
-  pub read_written : (z : Zone) → Good z → holds z ≡ true → length (all_transferred z.sets) ≤ 1048576 → text_meaning None (written_zone z) ≡ Ok z
+  -- a zone that was written is read as that zone, in the place of any that it renews
+  pub read_written : (old : Option Zone) (z : Zone) → Good z → holds z ≡ true → length (all_transferred z.sets) ≤ 1048576 → renews old z.apex z.serial ≡ true → text_meaning old (written_zone z) ≡ Ok z
   -- so what is read of it is written as it was
-  pub written_read : (y z : Zone) → Good z → holds z ≡ true → length (all_transferred z.sets) ≤ 1048576 → text_meaning None (written_zone z) ≡ Ok y → written_zone y ≡ written_zone z
+  pub written_read : (old : Option Zone) (y z : Zone) → Good z → holds z ≡ true → length (all_transferred z.sets) ≤ 1048576 → text_meaning old (written_zone z) ≡ Ok y → written_zone y ≡ written_zone z
