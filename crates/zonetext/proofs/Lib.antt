@@ -2,3 +2,4 @@ mod Lining
 mod Runs
 mod Dividing
 mod Pieced
+mod Fielded
