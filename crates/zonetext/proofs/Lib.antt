@@ -3,3 +3,5 @@ mod Runs
 mod Dividing
 mod Pieced
 mod Fielded
+mod Behind
+mod Whole

@@ -135,7 +135,7 @@ pieces_back (p ∷ ps) h =
     let q = and_parts (holds_piece p) (list_all holds_piece ps) h in
     pieces_step (32 ∷ (piece_text p ++ pieces_text ps)) ∙ ap (on_first pieces_in) (first_behind p ps q.0) ∙ ap (option_map (λ qs. p ∷ qs)) (pieces_back ps q.1)
 
-line_back : (verb : List ℕ) (ps : List Piece) → holds_word verb ≡ true → list_all holds_piece ps ≡ true → length (line_text verb ps) ≤ 1200 → pieces_of (line_text verb ps) ≡ Some (Word verb ∷ ps)
+pub line_back : (verb : List ℕ) (ps : List Piece) → holds_word verb ≡ true → list_all holds_piece ps ≡ true → length (line_text verb ps) ≤ 1200 → pieces_of (line_text verb ps) ≡ Some (Word verb ∷ ps)
 line_back verb ps h g n =
     let t = line_text verb ps in
     let r : read_part t ≡ t = piece_read (Word verb) (pieces_text ps) h ∙ ap (λ x. verb ++ x) (pieces_read ps g) in
@@ -143,7 +143,7 @@ line_back verb ps h g n =
     ∙ cond-true (leb (length t) 1200) (pieces_in t) None (le-leb (length t) 1200 n)
     ∙ pieces_step t ∙ ap (on_first pieces_in) (first_here (Word verb) ps h) ∙ ap (option_map (λ qs. Word verb ∷ qs)) (pieces_back ps g)
 
-verb_back : (verb : List ℕ) (ps : List Piece) → fields verb (Some (Word verb ∷ ps)) ≡ Some ps
+pub verb_back : (verb : List ℕ) (ps : List Piece) → fields verb (Some (Word verb ∷ ps)) ≡ Some ps
 verb_back verb ps = cond-true (is_verb verb (Word verb)) (Some ps) None (label_same verb verb refl)
 
 pub line_fields : (verb : List ℕ) (ps : List Piece) → holds_word verb ≡ true → list_all holds_piece ps ≡ true → length (line_text verb ps) ≤ 1200 → fields verb (pieces_of (line_text verb ps)) ≡ Some ps

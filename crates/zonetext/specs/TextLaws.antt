@@ -52,4 +52,4 @@ pub record TextLaws : Type 0 where
   -- a zone that was written is read as that zone, in the place of any that it renews
   pub read_written : (old : Option Zone) (z : Zone) → Good z → holds z ≡ true → length (all_transferred z.sets) ≤ 1048576 → renews old z.apex z.serial ≡ true → text_meaning old (written_zone z) ≡ Ok z
   -- so what is read of it is written as it was
-  pub written_read : (old : Option Zone) (y z : Zone) → Good z → holds z ≡ true → length (all_transferred z.sets) ≤ 1048576 → text_meaning old (written_zone z) ≡ Ok y → written_zone y ≡ written_zone z
+  pub written_read : (old : Option Zone) (y z : Zone) → Good z → holds z ≡ true → length (all_transferred z.sets) ≤ 1048576 → renews old z.apex z.serial ≡ true → text_meaning old (written_zone z) ≡ Ok y → written_zone y ≡ written_zone z

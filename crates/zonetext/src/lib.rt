@@ -1,6 +1,8 @@
 // The text of a zone, as its owner writes it: read to its end or to its first fault, and written.
 #![tactic(auto)]
 
+ghost use Rattle.zonetext.specs.TextLaws.{TextLaws};
+
 mod division;
 mod fields;
 mod heads;
@@ -10,3 +12,7 @@ mod refusal;
 
 pub use reading::{MAX_TRANSFER, load};
 pub use refusal::Refusal;
+
+pub fn text_laws()
+    ensures { TextLaws }
+{}
