@@ -5,3 +5,4 @@ mod Pieced
 mod Fielded
 mod Behind
 mod Whole
+mod Appending

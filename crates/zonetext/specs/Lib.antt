@@ -8,3 +8,4 @@ pub mod Cuts
 pub mod Loading
 pub mod Written
 pub mod TextLaws
+pub mod Appended

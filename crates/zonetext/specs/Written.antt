@@ -89,8 +89,12 @@ number_line z = line_text (codes "number") (number_piece z.serial ∷ [])
 abbrev pub times_line : Zone → List ℕ
 times_line z = line_text (codes "times") (number_piece z.negative ∷ number_piece z.refresh ∷ number_piece z.expire ∷ [])
 
+-- those before the sets, and what comes behind them
+abbrev pub heads_before : Zone → List ℕ → List ℕ
+heads_before z rest = top_line z ++ (10 ∷ (number_line z ++ (10 ∷ (times_line z ++ (10 ∷ rest)))))
+
 unfoldable pub written_zone : Zone → List ℕ
-written_zone z = top_line z ++ (10 ∷ (number_line z ++ (10 ∷ (times_line z ++ (10 ∷ sets_text z.apex z.sets)))))
+written_zone z = heads_before z (sets_text z.apex z.sets)
 
 -- ---- what a text can hold
 

@@ -9,9 +9,11 @@ mod heads;
 mod numbered;
 mod reading;
 mod refusal;
+mod writing;
 
 pub use reading::{MAX_TRANSFER, load};
 pub use refusal::Refusal;
+pub use writing::write;
 
 pub fn text_laws()
     ensures { TextLaws }
