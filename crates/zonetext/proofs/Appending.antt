@@ -1,16 +1,17 @@
 -- Writing behind what is there, piece by piece.
-use Rattle.std.proofs.Common.{◌≡◌, ℕ, suc, ◌+◌, ◌-◌, ◌/◌, ◌%◌, ◌<◌, ◌≤◌, Bool, true, false, ◌&&◌, eqb, ltb, codes, List, [], ◌∷◌, ◌++◌, map, length, take, drop, get_or, Ok, Err, Result, refl, sym, ap, inr, subst, ◌∙◌, true≢false, append_assoc, append-nil, arith, length-append}
+use Rattle.std.proofs.Common.{◌≡◌, ℕ, suc, ◌+◌, ◌-◌, ◌/◌, ◌%◌, ◌<◌, ◌≤◌, Bool, true, false, ◌&&◌, eqb, ltb, leb, codes, List, [], ◌∷◌, ◌++◌, map, length, take, drop, get_or, Ok, Err, Result, refl, sym, ap, inr, subst, ◌∙◌, true≢false, append_assoc, append-nil, arith, length-append}
 use Rattle.std.specs.List.{list_all}
-use Rattle.std.proofs.lemmas.Bool.{cond-true, and_from, and_left, lt-ltb, eqb-true}
+use Rattle.std.proofs.lemmas.Bool.{cond-true, and_from, and_left, and_right, lt-ltb, le-leb, lt-leb, eqb-true}
 use Rattle.std.proofs.lemmas.List.{take_at, drop_at, drop_more, drop_all}
 use Rattle.names.specs.declared.fault.Fault.{Fault}
 use Rattle.names.specs.Labels.{written}
 use Rattle.names.specs.Order.{within}
 use Rattle.names.proofs.Within.{within_front}
 use Rattle.names.proofs.RoundTrip.{written_highest, written_one}
+use Rattle.meaning.specs.Model.{Set, Zone}
 use Rattle.zonetext.specs.Division.{Piece, Word, Text}
 use Rattle.zonetext.specs.Appended.{Appends, AppendsIf}
-use Rattle.zonetext.specs.Written.{piece_text, pieces_text, line_text, hex_digit, hexadecimal, other_piece, whole, is_below, name_text}
+use Rattle.zonetext.specs.Written.{piece_text, pieces_text, line_text, hex_digit, hexadecimal, other_piece, whole, is_below, name_text, set_line, sets_text, top_line, number_line, times_line, heads_before, written_zone, holds_data, holds_set}
 
 -- ---- what is due, one after the other
 
@@ -143,10 +144,6 @@ short_done apex n start out after k h l m e f g =
     let n-is : length (start ++ w) ≡ k = omega arith in
     g ∙ ap (take k) parts ∙ take_at (start ++ w) (46 ∷ written apex) k n-is ∙ ap (λ t. start ++ t) (sym (short_is apex n h l))
 
--- the root stands in no other name
-pub short_of_root : (apex n : List (List ℕ)) (start out : List ℕ) → within apex n ≡ true → length apex < length n → length apex ≡ 0 → out ≡ start ++ written n → out ≡ start ++ name_text apex n
-short_of_root apex n start out h l m e = e ∙ ap (λ k. start ++ written (drop k n)) (sym m) ∙ ap (λ t. start ++ t) (sym (short_is apex n h l))
-
 -- ---- the lines of a zone
 
 pub heads_done : (out a b after w n x y z : List ℕ) → a ≡ out ++ codes "top " → b ≡ a ++ w → after ≡ b ++ (10 ∷ (codes "number " ++ (n ++ (10 ∷ (codes "times " ++ (x ++ (32 ∷ (y ++ (32 ∷ (z ++ 10 ∷ [])))))))))) → after ≡ out ++ (line_text (codes "top") (Word w ∷ []) ++ 10 ∷ (line_text (codes "number") (Word n ∷ []) ++ 10 ∷ (line_text (codes "times") (Word x ∷ Word y ∷ Word z ∷ []) ++ 10 ∷ [])))
@@ -158,3 +155,35 @@ heads_done out a b after w n x y z e f g =
 pub set_done : (out a b c d w k t : List ℕ) (ps : List Piece) → a ≡ out ++ codes "set " → b ≡ a ++ w → c ≡ b ++ (32 ∷ (k ++ (32 ∷ t))) → d ≡ c ++ pieces_text ps → d ≡ out ++ line_text (codes "set") (Word w ∷ Word k ∷ Word t ∷ ps)
 unfolding pieces_text
 set_done out a b c d w k t ps e f g h = h ∙ ap (λ o. o ++ pieces_text ps) (g ∙ ap (λ o. o ++ (32 ∷ (k ++ (32 ∷ t)))) (f ∙ ap (λ o. o ++ w) e)) ∙ simp append_assoc
+
+-- a set's line, and whether it isn't too long
+pub line_held : (apex : List (List ℕ)) (s : Set) (out d : List ℕ) → d ≡ out ++ set_line apex s → length d - length out ≤ 1200 → holds_data s.content ≡ true → holds_set apex s ≡ true
+line_held apex s out d e n h =
+    let a = ap length e in
+    let b = length-append out (set_line apex s) in
+    and_from (holds_data s.content) (leb (length (set_line apex s)) 1200) h (le-leb (length (set_line apex s)) 1200 (omega arith))
+
+pub line_too_long : (apex : List (List ℕ)) (s : Set) (out d : List ℕ) → d ≡ out ++ set_line apex s → 1200 < length d - length out → holds_set apex s ≡ false
+line_too_long apex s out d e n =
+    let a = ap length e in
+    let b = length-append out (set_line apex s) in
+    and_right (holds_data s.content) (leb (length (set_line apex s)) 1200) (lt-leb (length (set_line apex s)) 1200 (omega arith))
+
+pub line_ended : (out l d after : List ℕ) → d ≡ out ++ l → after ≡ d ++ 10 ∷ [] → after ≡ out ++ (l ++ 10 ∷ [])
+line_ended out l d after e f = f ∙ ap (λ o. o ++ 10 ∷ []) e ∙ append_assoc out l (10 ∷ [])
+
+pub sets_none : (apex : List (List ℕ)) → sets_text apex [] ≡ []
+unfolding sets_text
+sets_none apex = refl
+
+pub sets_cons : (apex : List (List ℕ)) (s : Set) (ss : List Set) → sets_text apex (s ∷ ss) ≡ (set_line apex s ++ 10 ∷ []) ++ sets_text apex ss
+unfolding sets_text
+sets_cons apex s ss = sym (append_assoc (set_line apex s) (10 ∷ []) (sets_text apex ss))
+
+pub zone_done : (z : Zone) (start out : List ℕ) → start ≡ heads_before z [] → out ≡ start ++ sets_text z.apex z.sets → out ≡ written_zone z
+unfolding written_zone
+zone_done z start out e f =
+    let sets = sets_text z.apex z.sets in
+    let times = append_assoc (times_line z) (10 ∷ []) sets in
+    let number = append_assoc (number_line z) (10 ∷ (times_line z ++ 10 ∷ [])) sets ∙ ap (λ t. number_line z ++ 10 ∷ t) times in
+    f ∙ ap (λ o. o ++ sets) e ∙ append_assoc (top_line z) (10 ∷ (number_line z ++ 10 ∷ (times_line z ++ 10 ∷ []))) sets ∙ ap (λ t. top_line z ++ 10 ∷ t) number

@@ -1,4 +1,4 @@
-use Rattle.std.proofs.Common.{◌≡◌, true, vec_items, sym, subst, rules}
+use Rattle.std.proofs.Common.{vec_items, sym, subst}
 use Rattle.names.specs.Names.{labels}
 use Rattle.records.specs.Contents.{content_of}
 use Rattle.zonetext.specs.Appended.{AppendsIf}

@@ -1,5 +1,4 @@
 use Rattle.std.proofs.Common.{◌≡◌, [], ◌∷◌, ◌++◌, map, vec_items, rules}
-use Rattle.zonetext.specs.Division.{Piece}
 use Rattle.zonetext.specs.Written.{other_piece, pieces_text}
 use Rattle.zonetext.proofs.Appending.{one_more, all_done, pieces_none, pieces_cons}
 use Rattle.zonetext.proofs.writing.data.write_others.Goals as goal

@@ -1,7 +1,7 @@
-use Rattle.std.proofs.Common.{◌≡◌, true, false, [], ◌∷◌, ◌++◌, map, vec_items, rules}
-use Rattle.zonetext.specs.Division.{Piece, Text}
+use Rattle.std.proofs.Common.{◌≡◌, true, [], ◌∷◌, ◌++◌, map, vec_items, rules}
+use Rattle.zonetext.specs.Division.{Text}
 use Rattle.zonetext.specs.Written.{pieces_text, holds_text}
-use Rattle.zonetext.proofs.Appending.{one_more, all_done, one_held, not_held, all_held, pieces_none, pieces_cons}
+use Rattle.zonetext.proofs.Appending.{one_more, all_done, one_held, all_held, pieces_none, pieces_cons}
 use Rattle.zonetext.proofs.writing.data.write_texts.Goals as goal
 
 pub loop-text-preserved : goal.loop-text-preserved

@@ -1,8 +1,8 @@
-use Rattle.std.proofs.Common.{◌≡◌, ◌<◌, true, ◌++◌, length, vec_items, ap, ◌∙◌, arith, rules}
+use Rattle.std.proofs.Common.{◌≡◌, ◌<◌, true, ◌++◌, length, vec_items, arith, rules}
 use Rattle.names.specs.Labels.{written}
 use Rattle.names.specs.Names.{labels}
 use Rattle.names.specs.Order.{within}
-use Rattle.zonetext.proofs.Appending.{short_room, short_done, short_of_root}
+use Rattle.zonetext.proofs.Appending.{short_room, short_done}
 use Rattle.zonetext.proofs.writing.name.write_name.Goals as goal
 
 pub overflow_sub-len : goal.overflow_sub-len
