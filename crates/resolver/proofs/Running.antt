@@ -1,5 +1,6 @@
 -- Calls as parts of a run of the world.
-use Rattle.std.proofs.Common.{◌≡◌, ℕ, Bool, true, false, cond, List, [], ◌∷◌, ◌++◌, Some, None, Ok, Err, Option, Result, nat_eq, sym, refl, ap, ◌∙◌, subst, true≢false}
+use lib.ListN.{length-map}
+use Rattle.std.proofs.Common.{◌≡◌, ℕ, ◌*◌, ◌≤◌, length, rules, arith, Bool, true, false, cond, List, [], ◌∷◌, ◌++◌, Some, None, Ok, Err, Option, Result, nat_eq, sym, refl, ap, ◌∙◌, subst, true≢false}
 use mathlib.Core.List.{Memᴰ}
 use Rattle.names.specs.declared.fault.Fault.{Fault}
 use Rattle.names.specs.declared.fault.Fault.TheVariants.{TooMuch, NotPending, WrongApex}
@@ -10,6 +11,8 @@ use Rattle.protocol.specs.World.{Rules, rules_of, Response, Event, Hears, Forget
 use Rattle.machine.specs.Store.{Put, Kept, Ousted, NoRoom, put}
 use Rattle.machine.specs.Machine.{Question, Pending, State, Shown, begin, settle, draw, Heard, misfit, in_use, keep, heard_by, hear_fit, hear_for, hear}
 use Rattle.machine.specs.Refine.{Joint, draws, hears, sends, drops, Showing}
+use Rattle.machine.specs.Bounds.{most}
+use Rattle.machine.proofs.Bounds.{machine_bounds}
 use Rattle.machine.proofs.Main.{machine_refines}
 use Rattle.machine.proofs.Refining.{ok_is, err_ok}
 use Rattle.questions.specs.declared.query.Query as rust_query
@@ -19,7 +22,8 @@ use Rattle.resolver.specs.declared.resolver.hear.Heard.TheVariants as rust
 use Rattle.resolver.specs.Resolvers.{roots_of, rules_for, state_of}
 use Rattle.resolver.specs.Draws.{Draws}
 use Rattle.resolver.specs.Hears as hearing
-use Rattle.resolver.specs.Runs.{GoesOnAsking, GoesOnHearing}
+use Rattle.records.specs.Contents.{bytes_of}
+use Rattle.resolver.specs.Runs.{GoesOnAsking, GoesOnHearing, RunsBounded}
 
 -- the same state by the same rules goes on where that goes on
 pub moved : (rs qs : List Server) (st s : State) (es : List Event) → qs ≡ rs → s ≡ st → Joint (rules_of rs) st es → Joint (rules_of qs) s es
@@ -92,3 +96,27 @@ heard_goes x y r (Ok rust.Ousted) e h =
     let o = ousted_goes (rules_for x) r (state_of x) (record { state = state_of y; ousted = true }) es j m h refl in
     (o.0, o.1, o.2, moved (roots_of x) (roots_of y) (state_of y) (state_of y) _ e refl o.3)
 heard_goes x y r (Err f) e h = λ es j m. moved (roots_of x) (roots_of y) (state_of x) (state_of y) es e h.1 j
+
+-- ---- bounds of one question
+
+few_roots : (x : Resolver) → length (roots_of x) ≤ 16
+few_roots x = let l = x.few in let m = length-map x.roots.items bytes_of in search rules
+
+most_16 : (x : Resolver) → most (rules_for x) ≡ 16
+most_16 x = let l = few_roots x in search rules
+
+pub runs_bounded : RunsBounded
+runs_bounded = record {
+  sent_few = λ x st es p m n l.
+      let few = few_roots x in
+      let most_is = most_16 x in
+      let b = machine_bounds.sent_few (rules_for x) (omega arith) st es p m n l in
+      let e = ap (λ k. 24 * (2 * k)) most_is in
+      omega arith;
+  ends_soon = λ x st es p m n l t.
+      let few = few_roots x in
+      let most_is = most_16 x in
+      let b = machine_bounds.ends_soon (rules_for x) (omega arith) st es p m n l t in
+      let e = ap (λ k. 24 * (2 * k) * 11) most_is in
+      omega arith;
+}

@@ -1,9 +1,11 @@
 -- A resolver in the world: the runs that its calls are a part of, and what it shows in them.
-use Rattle.std.specs.Prelude.{◌≡◌, ℕ, true, List, [], ◌∷◌, ◌++◌, Some, None, Ok, Err, Option, Result}
+use Rattle.std.specs.Prelude.{◌≡◌, ℕ, ◌≤◌, true, List, [], ◌∷◌, ◌++◌, Some, None, Ok, Err, Option, Result}
 use mathlib.Core.List.{Memᴰ}
 use Rattle.names.specs.declared.fault.Fault.{Fault}
 use Rattle.protocol.specs.World.{Event, Asks, Hears, Forgets, Response, may_draw, world}
+use Rattle.machine.specs.Machine.{State}
 use Rattle.machine.specs.Refine.{Joint, Showing, Refines}
+use Rattle.machine.specs.Bounds.{Spot, Life, Tended}
 use Rattle.cache.specs.Caches.{entries_of}
 use Rattle.questions.specs.declared.query.Query.{Query}
 use Rattle.questions.specs.Queries.{query_of}
@@ -51,3 +53,8 @@ GoesOnHearing x r result y = (es : List Event) → Runs x es → Memᴰ r (world
 -- every run of a resolver is one of the world, which keeps the promise
 abbrev pub RunsRefine : Type 0
 RunsRefine = (x : Resolver) (es : List Event) → Runs x es → Refines (rules_for x) (state_of x) es
+
+-- the life of a question by the rules of a resolver: how many queries are sent for it, and how many seconds it lasts
+pub record RunsBounded : Type 0 where
+  pub sent_few : (x : Resolver) (st : State) (es : List Event) (p : Spot) (m n : ℕ) → Life (rules_for x) st es p m n → m ≤ 768
+  pub ends_soon : (x : Resolver) (st : State) (es : List Event) (p : Spot) (m n : ℕ) → (l : Life (rules_for x) st es p m n) → Tended l → n ≤ 8454

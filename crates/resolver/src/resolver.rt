@@ -1,4 +1,6 @@
 // A resolver: what it remembers, which of its queries are pending, and which questions are under way.
+ghost use Rattle.std.specs.Prelude.{◌≤◌, vec_len};
+
 use bounded::Bounded;
 use cache::{Cache, Moment};
 use questions::{PendingTable, Question};
@@ -15,6 +17,9 @@ pub mod tick;
 // The most walks under way.
 pub const MAX_WALKS: usize = 16;
 
+// The most servers of the root, as of any zone: tries count for no more than twice so many.
+pub const MAX_ROOTS: usize = 16;
+
 #[derive(Drop)]
 pub struct Resolver {
     moment: Moment,
@@ -23,4 +28,5 @@ pub struct Resolver {
     pending: PendingTable,
     cache: Cache,
     walks: Bounded<Question, MAX_WALKS>,
+    ghost few: { vec_len roots ≤ 16 },
 }

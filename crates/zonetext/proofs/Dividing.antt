@@ -1,20 +1,13 @@
 -- A line read byte by byte, and divided piece by piece.
-use Rattle.std.proofs.Common.{◌≡◌, ℕ, zero, suc, ◌+◌, ◌<◌, ◌≤◌, Bool, true, false, cond, not, ◌&&◌, eqb, leb, List, [], ◌∷◌, ◌++◌, map, length, get_or, take, drop, Some, None, Option, refl, sym, ap, ◌∙◌, append_assoc, arith}
+use Rattle.std.proofs.Common.{◌≡◌, ℕ, zero, suc, ◌+◌, ◌<◌, ◌≤◌, Bool, true, false, cond, not, ◌&&◌, eqb, leb, List, [], ◌∷◌, ◌++◌, length, get_or, take, drop, Some, None, Option, refl, sym, ap, ◌∙◌, append_assoc, arith}
 use Rattle.std.specs.Option.{option_map}
-use Rattle.std.proofs.Math.Bool.{beq}
 use Rattle.std.proofs.lemmas.List.{append-nil, at_drop_more, at_drop_all, take_more, take_all, length-take, length-drop, nil_from_length}
 use Rattle.std.proofs.lemmas.Bool.{cond-true, cond-false, le-leb}
 use Rattle.lines.specs.Lines.{blank, run}
 use Rattle.zonetext.specs.Division.{Piece, Word, Text, read_from, read_part, quoted_after, in_word, in_text, may_end, First, Nothing, Faulty, Has, closed, worded, begun, first_piece, on_first, pieces_upto, pieces_in, pieces_of}
-use Rattle.zonetext.proofs.Runs.{run_nil}
+use Rattle.lines.proofs.Runs.{run_nil}
 
 -- ---- what is read
-
-pub flipped : (q c : Bool) → cond c (not q) q ≡ not (beq q c)
-flipped true true = refl
-flipped true false = refl
-flipped false true = refl
-flipped false false = refl
 
 read_on : (q : Bool) (b : ℕ) (bs : List ℕ) → (not q && eqb b 59) ≡ false → read_from q (b ∷ bs) ≡ b ∷ read_from (quoted_after q b) bs
 unfolding read_from

@@ -6,3 +6,8 @@ mod Fielded
 mod Behind
 mod Whole
 mod Appending
+mod Serials
+mod Loading
+mod Hexadecimal
+mod Taking
+mod BadNames

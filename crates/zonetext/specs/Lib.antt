@@ -9,3 +9,4 @@ pub mod Loading
 pub mod Written
 pub mod TextLaws
 pub mod Appended
+pub mod Checks

@@ -132,8 +132,16 @@ zone_with a n t = record { apex = a; serial = n; negative = t.negative; refresh 
 abbrev pub zone_in : Option Zone → ℕ → List Line → Result Zone Refusal
 zone_in old end ls =
     with_next end ls (λ o. top_of (fields (codes "top") o)) (λ apex ms.
-        with_next end ms (λ o. serial_of old apex (fields (codes "number") o)) (λ n ns.
-            with_next end ns (λ o. times_of (fields (codes "times") o)) (λ t rest. with_lines (zone_with apex n t) rest)))
+    with_next end ms (λ o. serial_of old apex (fields (codes "number") o)) (λ n ns.
+    with_next end ns (λ o. times_of (fields (codes "times") o)) (λ t rest. with_lines (zone_with apex n t) rest)))
+
+-- the apex of a text, by its first line that says something
+abbrev pub top_from : ℕ → List Line → Result (List (List ℕ)) Refusal
+top_from end [] = Err (record { line = end; fault = Malformed })
+top_from end (l ∷ ls) = then l.number (top_of (fields (codes "top") l.pieces)) (λ a. Ok a)
+
+unfoldable pub top_in : List ℕ → Result (List (List ℕ)) Refusal
+top_in text = top_from (suc (length (lines_of text))) (numbered 1 (lines_of text))
 
 -- what a text means, beside the zone that was there
 unfoldable pub text_meaning : Option Zone → List ℕ → Result Zone Refusal

@@ -1,12 +1,12 @@
 // A line divided into words and texts in quotes.
-ghost use Rattle.std.specs.Prelude.{◌≡◌, ◌⊎◌, ◌≤◌, map, take, drop, length, Some, None, MatchResult};
+ghost use Rattle.std.specs.Prelude.{◌≡◌, ◌⊎◌, ◌≤◌, map, take, drop, length, MatchResult};
 ghost use Rattle.names.specs.declared.fault.Fault.TheVariants.{Malformed, NoMemory};
 ghost use Rattle.lines.specs.Lines.{blank, run};
 ghost use Rattle.zonetext.specs.Division.{in_word, in_text, may_end, closed, worded, first_piece, read_part, pieces_of};
 ghost use Rattle.zonetext.specs.Readings.{piece_of};
 ghost use Rattle.zonetext.specs.Cuts.{Cuts};
 
-use lines::MAX_LINE;
+use lines::{MAX_LINE, is_blank};
 use names::Fault;
 use std::alloc::Global;
 
@@ -26,15 +26,11 @@ pub fn read_part(line: &[u8]) -> &[u8]
         if *b == b';' && !quoted {
             return &line[..i];
         }
-        quoted = quoted != (*b == b'"');
+        if *b == b'"' {
+            quoted = !quoted;
+        }
     }
     line
-}
-
-fn is_blank(b: u8) -> bool
-    ensures { result ≡ blank b }
-{
-    b == b' ' || b == b'\t'
 }
 
 // Can a word hold this byte? The printable ones, but no quote.

@@ -5,7 +5,7 @@ ghost use Rattle.names.specs.declared.fault.Fault.TheVariants.{Malformed};
 ghost use Rattle.names.specs.Names.{labels, given};
 ghost use Rattle.records.specs.Numbers.{serial_given};
 ghost use Rattle.zones.specs.Zones.{zone_of};
-ghost use Rattle.zonetext.specs.Texts.{fields, top_of, serial_of, times_of};
+ghost use Rattle.zonetext.specs.Texts.{fields, top_of, renews, serial_of, times_of};
 ghost use Rattle.zonetext.specs.Readings.{piece_of};
 ghost use Rattle.zonetext.specs.Heads.{times_given, old_zone};
 
@@ -38,7 +38,16 @@ pub fn read_top(fields: &[Piece]) -> Result<Name, Fault>
     name(&Name::root(), *top)
 }
 
-// Newer than that of the zone that was there, if it has the same apex.
+// Newer than the zone that was there, if that has the same apex.
+fn renews(old: Option<&Zone>, apex: &Name, serial: Serial) -> bool
+    ensures { result ≡ renews (old_zone old.entry) (labels apex.now) serial.number }
+{
+    let Some(zone) = old else {
+        return true;
+    };
+    *zone.apex() != *apex || serial.is_newer_than(zone.serial())
+}
+
 pub fn read_serial(old: Option<&Zone>, apex: &Name, fields: &[Piece]) -> Result<Serial, Fault>
     ensures { serial_given result ≡ serial_of (old_zone old.entry) (labels apex.now) (Some (map piece_of fields.now)) }
 {
@@ -49,11 +58,10 @@ pub fn read_serial(old: Option<&Zone>, apex: &Name, fields: &[Piece]) -> Result<
         return Err(Fault::Malformed);
     };
     let serial = Serial::try_from(number)?;
-    match old {
-        Some(zone) if zone.apex() == apex && !serial.is_newer_than(zone.serial()) => {
-            Err(Fault::StaleSerial)
-        }
-        _ => Ok(serial),
+    if renews(old, apex, serial) {
+        Ok(serial)
+    } else {
+        Err(Fault::StaleSerial)
     }
 }
 

@@ -3,6 +3,7 @@
 
 ghost use Rattle.zonetext.specs.TextLaws.{TextLaws};
 
+mod checking;
 mod division;
 mod fields;
 mod heads;
@@ -11,7 +12,8 @@ mod reading;
 mod refusal;
 mod writing;
 
-pub use reading::{MAX_TRANSFER, load};
+pub use checking::{DAY, outlasts_a_day, points_nowhere};
+pub use reading::{MAX_TRANSFER, apex_of, load};
 pub use refusal::Refusal;
 pub use writing::write;
 

@@ -1,7 +1,7 @@
 // Questions begin, and end where they are done.
-ghost use Rattle.std.specs.Prelude.{◌≡◌, ◌+◌, ◌<◌, [], ◌++◌, map, take, drop, Some, None, length, IfOk, MatchOption, MatchResult, slice_index_or};
+ghost use Rattle.std.specs.Prelude.{◌≡◌, ◌+◌, ◌<◌, ◌≤◌, ◌⊎◌, vec_len, [], ◌++◌, map, take, drop, Some, None, length, IfOk, MatchOption, MatchResult, slice_index_or};
 ghost use Rattle.std.specs.Option.{option_map};
-ghost use Rattle.names.specs.declared.fault.Fault.TheVariants.{NoMemory};
+ghost use Rattle.names.specs.declared.fault.Fault.TheVariants.{BadData, NoMemory};
 ghost use Rattle.names.specs.Names.{labels};
 ghost use Rattle.records.specs.Contents.{bytes_of};
 ghost use Rattle.cache.specs.Caches.{entries_of};
@@ -10,7 +10,7 @@ ghost use Rattle.machine.specs.Machine.{first_state, question, begin, settle, se
 ghost use Rattle.resolver.specs.Resolvers.{roots_of, rules_for, state_of, shown_for, answer_for};
 ghost use Rattle.resolver.specs.Runs.{Runs, GoesOn, Keeps, KeepsIfOk};
 
-use super::Resolver;
+use super::{MAX_ROOTS, Resolver};
 use crate::answer::{Outcome, Shown, Standing};
 use bounded::Bounded;
 use cache::{Cache, Moment};
@@ -20,11 +20,14 @@ use records::Address;
 use std::alloc::Global;
 
 impl Resolver {
-    // One that remembers nothing, and knows the root's servers.
+    // One that remembers nothing, and knows the root's servers, at most 16.
     pub fn new(heap: Global, roots: Vec<Address>) -> Result<Resolver, Fault>
-        ensures made { MatchResult result (λ x. (state_of x ≡ first_state) × (roots_of x ≡ map bytes_of roots.items)) (λ f. f ≡ NoMemory) }
+        ensures made { MatchResult result (λ x. (state_of x ≡ first_state) × (roots_of x ≡ map bytes_of roots.items) × (vec_len roots ≤ 16)) (λ f. ((f ≡ BadData) × (16 < vec_len roots)) ⊎ (f ≡ NoMemory)) }
         ensures runs { IfOk result (λ x. Runs x []) }
     {
+        if roots.len() > MAX_ROOTS {
+            return Err(Fault::BadData);
+        }
         let pending = PendingTable::new(heap)?;
         let cache = Cache::new(heap)?;
         let walks = Bounded::new(heap)?;

@@ -1,4 +1,4 @@
-use Rattle.std.proofs.Common.{◌≡◌, ◌⊎◌, [], ◌∷◌, ◌++◌, map, Some, None, Err, MatchResult, inl, vec_items, refl, sym, ap, ◌∙◌, subst, rules}
+use Rattle.std.proofs.Common.{◌≡◌, ◌⊎◌, [], ◌∷◌, ◌++◌, map, Some, None, Err, MatchResult, inl, vec_items, refl, sym, ap, ◌∙◌, subst, arith, rules}
 use Rattle.std.proofs.lemmas.List.{map-append}
 use Rattle.std.proofs.lemmas.Result.{err_from_is_err_and}
 use Rattle.names.specs.declared.fault.Fault.TheVariants.{Malformed, NoMemory}
@@ -12,7 +12,7 @@ returns-in_err-piece c =
     let line = c.args.line.now in
     let h = c.in_err-piece.ensures in
     let p = err_from_is_err_and c.from_residual.result c.from_residual.ensures.1 in
-    let none = within_line line c.read_part-rest.result.now None c.read_part-rest.ensures c.if-rest-gt-MAX_LINE.false (bad_cut (read_part line) (map piece_of (vec_items c.loop-pieces.pieces)) c.loop-pieces.rest.now c.loop-pieces.invariant h.0) in
+    let none = within_line line c.read_part-rest.result.now None c.read_part-rest.ensures (omega arith) (bad_cut (read_part line) (map piece_of (vec_items c.loop-pieces.pieces)) c.loop-pieces.rest.now c.loop-pieces.invariant h.0) in
     subst (λ r. MatchResult r (λ v. pieces_of line ≡ Some (map piece_of (vec_items v))) (λ f. ((pieces_of line ≡ None) × (f ≡ Malformed)) ⊎ (f ≡ NoMemory))) (sym (p.1 ∙ ap Err (p.2 ∙ h.1))) (inl (none, refl))
 
 pub loop-pieces-smaller : goal.loop-pieces-smaller
@@ -32,4 +32,4 @@ pub returns : goal.returns
 returns c =
     let line = c.args.line.now in
     let cut : first_piece c.loop-pieces.rest.now ≡ Nothing = search rules in
-    within_line line c.read_part-rest.result.now _ c.read_part-rest.ensures c.if-rest-gt-MAX_LINE.false (all_cut (read_part line) (map piece_of (vec_items c.loop-pieces.pieces)) c.loop-pieces.rest.now c.loop-pieces.invariant cut)
+    within_line line c.read_part-rest.result.now _ c.read_part-rest.ensures (omega arith) (all_cut (read_part line) (map piece_of (vec_items c.loop-pieces.pieces)) c.loop-pieces.rest.now c.loop-pieces.invariant cut)
