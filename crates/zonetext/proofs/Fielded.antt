@@ -141,13 +141,13 @@ whole_back apex [] h = root_back apex
 whole_back apex (l ∷ ls) h = written_laws.dotted_written apex (l ∷ ls) h (omega arith)
 
 -- a name below the apex, as the apex and what stands below it
-record Short (apex n : List (List ℕ)) : Type 0 where
-  rest : List (List ℕ)
-  parts : n ≡ apex ++ rest
-  there : 0 < length rest
-  behind : drop (length apex) n ≡ rest
+pub record Short (apex n : List (List ℕ)) : Type 0 where
+  pub rest : List (List ℕ)
+  pub parts : n ≡ apex ++ rest
+  pub there : 0 < length rest
+  pub behind : drop (length apex) n ≡ rest
 
-short : (apex n : List (List ℕ)) → is_below apex n ≡ true → Short apex n
+pub short : (apex n : List (List ℕ)) → is_below apex n ≡ true → Short apex n
 short apex n h =
     let p = and_parts (within apex n) (ltb (length apex) (length n)) h in
     let f = within_front apex n p.0 in
@@ -156,7 +156,7 @@ short apex n h =
     let e = ap length f.1 in
     record { rest = f.0; parts = f.1; there = omega arith; behind = ap (drop (length apex)) f.1 ∙ drop_at apex f.0 (length apex) refl }
 
-name_cases : (P : List ℕ → Type 0) (apex n : List (List ℕ)) → (is_below apex n ≡ true → P (written (drop (length apex) n))) → P (whole n) → P (name_text apex n)
+pub name_cases : (P : List ℕ → Type 0) (apex n : List (List ℕ)) → (is_below apex n ≡ true → P (written (drop (length apex) n))) → P (whole n) → P (name_text apex n)
 name_cases P apex n f g = go (is_below apex n) refl
   where
     go : (b : Bool) → is_below apex n ≡ b → P (name_text apex n)
@@ -226,7 +226,7 @@ hex_words (b ∷ bs) h =
     let y = hex_digit (b % 16) in
     and_from (word_byte x) (word_byte y && list_all word_byte (hexadecimal bs)) (hex_byte (b / 16) t.0) (and_from (word_byte y) (list_all word_byte (hexadecimal bs)) (hex_byte (b % 16) t.1) (hex_words bs p.1))
 
-length_hex : (bs : List ℕ) → length (hexadecimal bs) ≡ 2 * length bs
+pub length_hex : (bs : List ℕ) → length (hexadecimal bs) ≡ 2 * length bs
 unfolding hexadecimal
 length_hex [] = refl
 length_hex (b ∷ bs) = let h = length_hex bs in omega arith

@@ -11,3 +11,4 @@ mod Loading
 mod Hexadecimal
 mod Taking
 mod BadNames
+mod Holding

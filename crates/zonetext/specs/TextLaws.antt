@@ -53,3 +53,5 @@ pub record TextLaws : Type 0 where
   pub read_written : (old : Option Zone) (z : Zone) → Good z → holds z ≡ true → length (all_transferred z.sets) ≤ 1048576 → renews old z.apex z.serial ≡ true → text_meaning old (written_zone z) ≡ Ok z
   -- so what is read of it is written as it was
   pub written_read : (old : Option Zone) (y z : Zone) → Good z → holds z ≡ true → length (all_transferred z.sets) ≤ 1048576 → renews old z.apex z.serial ≡ true → text_meaning old (written_zone z) ≡ Ok y → written_zone y ≡ written_zone z
+  -- and what was read can be written
+  pub read_held : (old : Option Zone) (text : List ℕ) (z : Zone) → text_meaning old text ≡ Ok z → holds z ≡ true
