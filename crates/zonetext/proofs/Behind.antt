@@ -1,15 +1,15 @@
 -- A set that stands behind all others of a zone is taken, and comes last.
-use Rattle.std.proofs.Common.{◌≡◌, ℕ, suc, ◌+◌, ◌<◌, ◌≤◌, Bool, true, false, cond, not, ◌&&◌, ◌||◌, eqb, leb, List, [], ◌∷◌, ◌++◌, length, is_some, Some, Ok, Err, Ordering, Less, Equal, Greater, sym, refl, ap, ◌∙◌, subst, true≢false, arith, length-append}
+use Rattle.std.proofs.Common.{◌≡◌, ℕ, ◌+◌, ◌<◌, ◌≤◌, Bool, true, false, cond, not, ◌&&◌, ◌||◌, eqb, leb, List, [], ◌∷◌, ◌++◌, length, is_some, Some, Ok, Err, Ordering, Less, Equal, Greater, sym, refl, ap, ◌∙◌, true≢false, arith, length-append}
 use Rattle.std.specs.Cmp.{IsTotalOrder, nat_cmp_total, on_total, then_total, ranks}
 use Rattle.std.specs.Ordering.{is_lt, ordering_then, MatchOrdering, nat_cmp, then_cmp, on}
-use Rattle.std.proofs.lemmas.Bool.{cond-true, cond-false, and_parts, and_from, or_parts, or_from, not-true, eqb-true, leb-true, lt-leb}
+use Rattle.std.proofs.lemmas.Bool.{cond-true, cond-false, and_parts, or_parts, or_from, not-true, eqb-true, leb-true, lt-leb}
 use Rattle.names.specs.declared.fault.Fault.TheVariants.{Misplaced, Conflict, TooMuch}
 use Rattle.names.specs.Comparing.{names_total}
 use Rattle.names.specs.Order.{order, within}
 use Rattle.names.proofs.Order.{order_itself}
-use Rattle.meaning.specs.Model.{delegates, aliases, AliasOf, Set}
+use Rattle.meaning.specs.Model.{delegates, aliases, Set}
 use Rattle.meaning.specs.Says.{same, is_exactly, find}
-use Rattle.meaning.specs.Transfer.{transferred, all_transferred}
+use Rattle.meaning.specs.Transfer.{all_transferred}
 use Rattle.meaning.proofs.Carried.{length_all, length_none}
 use Rattle.meaning.proofs.Rules.{same_so, so_same}
 use Rattle.zones.specs.Sorted.{is_before, sorted}

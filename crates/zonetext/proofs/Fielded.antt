@@ -1,5 +1,5 @@
 -- Numbers, names, data and sets are read as they were written.
-use Rattle.std.proofs.Common.{◌≡◌, ℕ, suc, ◌+◌, ◌-◌, ◌*◌, ◌/◌, ◌%◌, ◌^◌, ◌<◌, ◌≤◌, Bool, true, false, cond, not, ◌&&◌, ◌||◌, eqb, ltb, leb, List, [], ◌∷◌, ◌++◌, map, length, drop, Some, None, Ok, Err, Option, Result, refl, sym, ap, ◌∙◌, subst, arith, length-append}
+use Rattle.std.proofs.Common.{◌≡◌, ℕ, ◌+◌, ◌-◌, ◌*◌, ◌/◌, ◌%◌, ◌^◌, ◌<◌, Bool, true, false, cond, ◌&&◌, ◌||◌, eqb, ltb, leb, List, [], ◌∷◌, ◌++◌, map, length, drop, Some, None, Ok, Err, Option, refl, sym, ap, ◌∙◌, subst, arith, length-append}
 use Rattle.std.specs.Fmt.{decimal}
 use Rattle.std.specs.List.{list_all}
 use Rattle.std.proofs.lemmas.Bool.{cond-true, cond-false, and_parts, and_from, or_parts, not-true, ltb-true, ltb-false, lt-ltb, le-leb, eqb-true, eq-eqb}
@@ -7,7 +7,6 @@ use Rattle.std.proofs.lemmas.Bool.Decides.{nat_tests}
 use Rattle.std.proofs.lemmas.Fmt.{decimal_by_steps}
 use Rattle.std.proofs.lemmas.List.{drop_at}
 use Rattle.lines.specs.Lines.{digit, digits, value_from, number_in}
-use Rattle.names.specs.declared.fault.Fault.{Fault}
 use Rattle.names.specs.declared.fault.Fault.TheVariants.{BadData}
 use Rattle.names.specs.Labels.{label_byte, label_bytes, proper_label, proper_labels, written, proper}
 use Rattle.names.specs.Order.{within}
@@ -16,8 +15,8 @@ use Rattle.names.proofs.Proper.{limits, labels_append}
 use Rattle.names.proofs.RoundTrip.{written_laws, written_highest, written_one, written_root, written_there}
 use Rattle.names.proofs.Within.{within_front}
 use Rattle.meaning.specs.Model.{is_kind, plain, delegates, aliases, fits, pieces_fit, Content, Addresses, Texts, Others, AliasOf, Delegated, Set}
-use Rattle.zonetext.specs.Division.{Piece, Word, Text}
-use Rattle.zonetext.specs.Fields.{below, seconds_of, kind_from, kind_of, name_of, digit_of, byte_of, bytes_in, address_of, text_of, other_of, cons_if, all_of, data_from, alias_to, alias_of, data_of, fitting, set_from, set_of}
+use Rattle.zonetext.specs.Division.{Piece, Text}
+use Rattle.zonetext.specs.Fields.{below, seconds_of, kind_from, kind_of, digit_of, byte_of, bytes_in, address_of, text_of, other_of, cons_if, all_of, data_from, alias_to, alias_of, data_of, fitting, set_from}
 use Rattle.zonetext.specs.Texts.{set_in}
 use Rattle.zonetext.specs.Written.{number_piece, whole, is_below, name_text, name_piece, hex_digit, hexadecimal, address_piece, other_piece, data_pieces, set_pieces, holds_text, holds_data}
 use Rattle.zonetext.specs.TextLaws.{are_bytes, is_address, good_data, good_set, holds_word, holds_piece}

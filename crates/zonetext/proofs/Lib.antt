@@ -11,4 +11,6 @@ mod Loading
 mod Hexadecimal
 mod Taking
 mod BadNames
+mod Taken
+mod Shorter
 mod Holding

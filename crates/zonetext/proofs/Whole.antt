@@ -1,25 +1,22 @@
 -- A zone's text, as it is written, is read as that zone.
-use Rattle.std.proofs.Common.{◌≡◌, ℕ, suc, ◌+◌, ◌^◌, ◌<◌, ◌≤◌, Bool, true, false, cond, not, ◌&&◌, ltb, leb, List, [], ◌∷◌, ◌++◌, map, length, Some, None, Ok, Err, codes, Option, Result, sym, refl, ap, ◌∙◌, subst, append_assoc, append-nil, arith, length-append}
+use Rattle.std.proofs.Common.{◌≡◌, ℕ, suc, ◌+◌, ◌^◌, ◌<◌, ◌≤◌, true, ◌&&◌, ltb, leb, List, [], ◌∷◌, ◌++◌, length, Some, Ok, Err, codes, Option, Result, sym, refl, ap, ◌∙◌, subst, append_assoc, append-nil, arith, length-append}
 use Rattle.std.specs.Fmt.{decimal}
 use Rattle.std.specs.List.{list_all}
 use Rattle.std.proofs.lemmas.Bool.{cond-true, and_parts, and_from, leb-true, le-leb, ltb-true}
 use Rattle.std.proofs.lemmas.Fmt.{length-decimal-le}
-use Rattle.names.specs.declared.fault.Fault.{Fault}
 use Rattle.names.specs.declared.fault.Fault.TheVariants.{StaleSerial, TooMuch}
 use Rattle.names.specs.Labels.{written, proper}
-use Rattle.names.specs.Reading.{read_below}
 use Rattle.names.proofs.Proper.{limits, length_written, length_written_root}
 use Rattle.meaning.specs.Model.{is_serial, Set, Zone}
 use Rattle.meaning.specs.Transfer.{all_transferred}
 use Rattle.zones.specs.Sorted.{sorted}
-use Rattle.zones.specs.Valid.{valid, added}
+use Rattle.zones.specs.Valid.{valid}
 use Rattle.zones.specs.Zones.{with_sets}
 use Rattle.zonetext.specs.Division.{Piece, Word, pieces_of}
-use Rattle.zonetext.specs.Fields.{number_of}
 use Rattle.zonetext.specs.Texts.{lines_of, Line, unless_blank, numbered, fields, top_of, renews, serial_from, serial_of, Times, times_from, times_of, set_in, Refusal, then, within_room, with_set, with_lines, with_next, zone_with, zone_in, text_meaning}
-use Rattle.zonetext.specs.Written.{number_piece, line_text, whole, pieces_text, set_pieces, set_line, sets_text, top_line, number_line, times_line, written_zone, holds_data, holds_set, holds}
-use Rattle.zonetext.specs.TextLaws.{good_set, Good, TextLaws, holds_word, holds_piece}
-use Rattle.zonetext.proofs.Pieced.{line_back, verb_back, line_fields, line_ends, one_line}
+use Rattle.zonetext.specs.Written.{number_piece, line_text, whole, pieces_text, set_pieces, set_line, sets_text, number_line, times_line, written_zone, holds_data, holds_set, holds}
+use Rattle.zonetext.specs.TextLaws.{good_set, Good, holds_word, holds_piece}
+use Rattle.zonetext.proofs.Pieced.{line_back, verb_back, line_ends, one_line}
 use Rattle.zonetext.proofs.Fielded.{number_back, number_word, seconds_back, whole_word, whole_back, set_back, set_held}
 use Rattle.zonetext.proofs.Behind.{added_last, carried_front}
 

@@ -1,5 +1,5 @@
 -- Reading and writing a zone's text undo each other.
-use Rattle.std.specs.Prelude.{◌≡◌, ℕ, ◌^◌, ◌≤◌, Bool, true, not, ◌&&◌, List, length, None, Some, Ok, Option, ◌==◌, nat_le, nat_lt}
+use Rattle.std.specs.Prelude.{◌≡◌, ℕ, ◌^◌, ◌≤◌, Bool, true, not, ◌&&◌, List, length, Some, Ok, Option, ◌==◌, nat_lt}
 use Rattle.std.specs.List.{list_all}
 use Rattle.names.specs.Labels.{proper}
 use Rattle.meaning.specs.Model.{is_kind, is_serial, fits, Content, Addresses, Texts, Others, AliasOf, Delegated, Set, Zone}

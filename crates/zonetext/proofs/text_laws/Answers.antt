@@ -1,7 +1,6 @@
 use Rattle.zonetext.proofs.Holding.{read_held}
 use Rattle.zonetext.proofs.Pieced.{line_fields}
 use Rattle.zonetext.proofs.Whole.{read_written, written_read}
-use Rattle.zonetext.specs.TextLaws.{TextLaws}
 use Rattle.zonetext.proofs.text_laws.Goals as goal
 
 pub returns : goal.returns
