@@ -54,25 +54,26 @@ name_so apex (Word w) n e = name_shorter apex w n e
 name_so apex (Text t) n e = cc
 
 -- what a set was read from
-record From (apex : List (List ℕ)) (n k t : Piece) (ps : List Piece) (s : Set) : Type 0 where
-  time : seconds_of t ≡ Some s.ttl
-  named : name_of apex n ≡ Ok s.name
-  kind : kind_of k ≡ Some s.kind
-  content_is : data_of s.kind apex ps ≡ Ok s.content
+pub record From (apex : List (List ℕ)) (n k t : Piece) (ps : List Piece) (s : Set) : Type 0 where
+  pub time : seconds_of t ≡ Some s.ttl
+  pub named : name_of apex n ≡ Ok s.name
+  pub kind : kind_of k ≡ Some s.kind
+  pub content_is : data_of s.kind apex ps ≡ Ok s.content
+  pub fit : fits s.kind s.content ≡ true
 
-set_so : (apex : List (List ℕ)) (n k t : Piece) (ps : List Piece) (s : Set) → set_of apex n k t ps ≡ Ok s → From apex n k t ps s
+pub set_so : (apex : List (List ℕ)) (n k t : Piece) (ps : List Piece) (s : Set) → set_of apex n k t ps ≡ Ok s → From apex n k t ps s
 set_so apex n k t ps s e = go (seconds_of t) refl (name_of apex n) refl (kind_of k) refl e
   where
     fitted : (m : List (List ℕ)) (j u : ℕ) (r : Result Content Fault) → data_of j apex ps ≡ r → seconds_of t ≡ Some u → name_of apex n ≡ Ok m → kind_of k ≡ Some j → fitting m j u r ≡ Ok s → From apex n k t ps s
     fitted m j u (Err f) d a b c h = cc
-    fitted m j u (Ok x) d a b c h = go2 (fits j x) h
+    fitted m j u (Ok x) d a b c h = go2 (fits j x) refl h
       where
         made : Set
         made = record { name = m; kind = j; ttl = u; content = x }
 
-        go2 : (y : Bool) → cond y (Ok made) (Err BadData) ≡ Ok s → From apex n k t ps s
-        go2 true g = let q : made ≡ s = cc in subst (From apex n k t ps) q (record { time = a; named = b; kind = c; content_is = d })
-        go2 false g = cc
+        go2 : (y : Bool) → fits j x ≡ y → cond y (Ok made) (Err BadData) ≡ Ok s → From apex n k t ps s
+        go2 true f g = let q : made ≡ s = cc in subst (From apex n k t ps) q (record { time = a; named = b; kind = c; content_is = d; fit = f })
+        go2 false f g = cc
 
     go : (u : Option ℕ) → seconds_of t ≡ u → (m : Result (List (List ℕ)) Fault) → name_of apex n ≡ m → (j : Option ℕ) → kind_of k ≡ j → set_from apex u m j ps ≡ Ok s → From apex n k t ps s
     go None a m b j c h = cc
@@ -131,7 +132,7 @@ line_holds apex s (Some (p ∷ qs)) g e = go (is_verb (codes "set") p) refl e
         let v = ap (λ x. length (piece_text x)) (verb_word (codes "set") p f) in
         set_holds apex s qs t.1 (omega arith) h
 
-added_so : (apex : List (List ℕ)) (ss : List Set) (s : Set) (ts : List Set) → added apex ss s ≡ Ok ts → ts ≡ insert_set s ss
+pub added_so : (apex : List (List ℕ)) (ss : List Set) (s : Set) (ts : List Set) → added apex ss s ≡ Ok ts → ts ≡ insert_set s ss
 added_so apex ss s ts h = go (not (within apex s.name)) (is_some (find (is_exactly s.name s.kind) ss)) (delegates s.kind && same s.name apex) (clashes s ss) (leb 4096 (length ss)) h
   where
     go : (a b c d e : Bool) → ◌≡◌ {A = Result (List Set) Fault} (cond a (Err Misplaced) (cond b (Err Misplaced) (cond c (Err Conflict) (cond d (Err Conflict) (cond e (Err TooMuch) (Ok (insert_set s ss))))))) (Ok ts) → ts ≡ insert_set s ss
@@ -142,7 +143,7 @@ added_so apex ss s ts h = go (not (within apex s.name)) (is_some (find (is_exact
     go false false false false true k = cc
     go false false false false false k = cc
 
-insert_holds : (test : Set → Bool) (s : Set) (ss : List Set) → test s ≡ true → list_all test ss ≡ true → list_all test (insert_set s ss) ≡ true
+pub insert_holds : (test : Set → Bool) (s : Set) (ss : List Set) → test s ≡ true → list_all test ss ≡ true → list_all test (insert_set s ss) ≡ true
 unfolding insert_set
 insert_holds test s [] h g = and_from (test s) true h refl
 insert_holds test s (t ∷ ss) h g =
@@ -171,7 +172,7 @@ more_holds y z o g h e = go (set_in y.apex (fields (codes "set") o)) refl e
     go (Err f) a m = cc
     go (Ok s) a m = put s (line_holds y.apex s o g a) (added y.apex y.sets s) refl m
 
-then_so : {A : Type 0} (n : ℕ) (r : Result A Fault) (f : A → Result Zone Refusal) (z : Zone) → then n r f ≡ Ok z → (x : A) × (r ≡ Ok x) × (f x ≡ Ok z)
+pub then_so : {A : Type 0} (n : ℕ) (r : Result A Fault) (f : A → Result Zone Refusal) (z : Zone) → then n r f ≡ Ok z → (x : A) × (r ≡ Ok x) × (f x ≡ Ok z)
 then_so n (Ok x) f z e = (x, refl, e)
 then_so n (Err g) f z e = cc
 

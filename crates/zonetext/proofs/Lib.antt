@@ -14,3 +14,4 @@ mod BadNames
 mod Taken
 mod Shorter
 mod Holding
+mod Reread

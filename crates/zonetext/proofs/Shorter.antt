@@ -205,7 +205,7 @@ pub record Fits (apex : List (List ℕ)) (ps : List Piece) (c : Content) : Type 
   pub held : holds_data c ≡ true
   pub room : length (pieces_text (data_pieces apex c)) ≤ length (pieces_text ps)
 
-data_so : (f : List (List ℕ) → Content) (o : Option (List (List ℕ))) (c : Content) → data_from f o ≡ Ok c → (xs : List (List ℕ)) × (o ≡ Some xs) × (f xs ≡ c)
+pub data_so : (f : List (List ℕ) → Content) (o : Option (List (List ℕ))) (c : Content) → data_from f o ≡ Ok c → (xs : List (List ℕ)) × (o ≡ Some xs) × (f xs ≡ c)
 data_so f None c e = cc
 data_so f (Some xs) c e = (xs, refl, let a : f xs ≡ c = cc in a)
 

@@ -1,11 +1,13 @@
 -- Reading and writing a zone's text undo each other.
-use Rattle.std.specs.Prelude.{◌≡◌, ℕ, ◌^◌, ◌≤◌, Bool, true, not, ◌&&◌, List, length, Some, Ok, Option, ◌==◌, nat_lt}
+use Rattle.std.specs.Prelude.{◌≡◌, ℕ, ◌^◌, ◌≤◌, Bool, true, not, ◌&&◌, List, length, Some, None, Ok, Option, ◌==◌, nat_lt}
 use Rattle.std.specs.List.{list_all}
 use Rattle.names.specs.Labels.{proper}
 use Rattle.meaning.specs.Model.{is_kind, is_serial, fits, Content, Addresses, Texts, Others, AliasOf, Delegated, Set, Zone}
 use Rattle.meaning.specs.Transfer.{all_transferred}
+use Rattle.zones.specs.declared.zone.Zone as declared
 use Rattle.zones.specs.Sorted.{sorted}
 use Rattle.zones.specs.Valid.{valid}
+use Rattle.zones.specs.Zones.{zone_of}
 use Rattle.zonetext.specs.Division.{Piece, Word, Text, in_word, pieces_of}
 use Rattle.zonetext.specs.Texts.{fields, renews, text_meaning}
 use Rattle.zonetext.specs.Written.{holds_text, line_text, holds, written_zone}
@@ -55,3 +57,5 @@ pub record TextLaws : Type 0 where
   pub written_read : (old : Option Zone) (y z : Zone) → Good z → holds z ≡ true → length (all_transferred z.sets) ≤ 1048576 → renews old z.apex z.serial ≡ true → text_meaning old (written_zone z) ≡ Ok y → written_zone y ≡ written_zone z
   -- and what was read can be written
   pub read_held : (old : Option Zone) (text : List ℕ) (z : Zone) → text_meaning old text ≡ Ok z → holds z ≡ true
+  -- and it is read as the zone that it was: so each text has a normal form
+  pub read_again : (old : Option Zone) (text : List ℕ) (z : declared.Zone) → text_meaning old text ≡ Ok (zone_of z) → text_meaning None (written_zone (zone_of z)) ≡ Ok (zone_of z)
