@@ -1,8 +1,17 @@
 mod Lining
 mod Runs
 mod Dividing
+mod Pieced
+mod Fielded
+mod Behind
+mod Whole
+mod Appending
 mod Serials
 mod Loading
 mod Hexadecimal
 mod Taking
 mod BadNames
+mod Taken
+mod Shorter
+mod Holding
+mod Reread

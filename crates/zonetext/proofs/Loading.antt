@@ -1,10 +1,8 @@
 -- The lines of a text, one by one.
-use Rattle.std.proofs.Common.{◌≡◌, ℕ, suc, ◌+◌, length, arith, ◌⊎◌, List, [], ◌∷◌, map, Some, None, Ok, Err, codes, Option, Result, vec_items, inl, inr, ⊎_elim, sym, refl, ap, ◌∙◌}
-use Rattle.names.specs.declared.fault.Fault.{Fault}
-use Rattle.names.specs.declared.fault.Fault.TheVariants.{NoMemory, Malformed}
+use Rattle.std.proofs.Common.{◌≡◌, ℕ, suc, ◌+◌, length, arith, ◌⊎◌, List, [], ◌∷◌, None, Ok, Err, codes, Option, Result, inl, inr, sym, refl, ap, ◌∙◌}
+use Rattle.names.specs.declared.fault.Fault.TheVariants.{NoMemory}
 use Rattle.meaning.specs.Model.{Zone}
 use Rattle.zonetext.specs.declared.refusal.Refusal as declared
-use Rattle.zonetext.specs.Division.{Piece}
 use Rattle.zonetext.specs.Texts.{Line, Refusal, Times, lines_of, numbered, fields, top_of, serial_of, times_of, set_in, then, with_set, with_lines, with_next, zone_with, zone_in, top_from, top_in, text_meaning}
 use Rattle.zonetext.specs.Numbered.{refusal_of, Undivided}
 

@@ -1,5 +1,5 @@
 -- A serial beside that of the zone that was there.
-use Rattle.std.proofs.Common.{◌≡◌, ℕ, Bool, true, false, List, Some, sym, ap, ◌∙◌}
+use Rattle.std.proofs.Common.{◌≡◌, ℕ, true, false, List, Some, sym, ap, ◌∙◌}
 use Rattle.std.proofs.lemmas.Bool.{cond-true, cond-false}
 use Rattle.meaning.specs.Model.{Zone, newer}
 use Rattle.meaning.specs.Says.{same}

@@ -6,4 +6,7 @@ pub mod Numbered
 pub mod Heads
 pub mod Cuts
 pub mod Loading
+pub mod Written
+pub mod TextLaws
+pub mod Appended
 pub mod Checks

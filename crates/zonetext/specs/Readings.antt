@@ -1,7 +1,7 @@
 -- What the code's pieces stand for, and what it is to read something that is due.
-use Rattle.std.specs.Prelude.{◌≡◌, ℕ, ◌⊎◌, List, map, Some, None, Ok, Err, Option, Result}
+use Rattle.std.specs.Prelude.{◌≡◌, ◌⊎◌, Ok, Err, Result}
 use Rattle.names.specs.declared.fault.Fault.{Fault}
-use Rattle.names.specs.declared.fault.Fault.TheVariants.{NoMemory, Malformed}
+use Rattle.names.specs.declared.fault.Fault.TheVariants.{NoMemory}
 use Rattle.zonetext.specs.declared.division.Piece as declared
 use Rattle.zonetext.specs.declared.division.Piece.TheVariants as rust
 use Rattle.zonetext.specs.Division.{Piece, Word, Text}

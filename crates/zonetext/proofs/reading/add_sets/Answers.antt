@@ -1,9 +1,8 @@
-use Rattle.std.proofs.Common.{◌≡◌, ◌⊎◌, map, codes, Some, Ok, Err, inl, inr, ⊎_elim, subst, sym, ap, ◌∙◌}
+use Rattle.std.proofs.Common.{map, Ok, inl, inr, ⊎_elim, subst, ◌∙◌}
 use Rattle.std.proofs.lemmas.Result.{err_from_is_err_and}
 use Rattle.zones.specs.Zones.{zone_of}
 use Rattle.zonetext.specs.Readings.{piece_of}
-use Rattle.zonetext.specs.Texts.{with_lines}
-use Rattle.zonetext.specs.Numbered.{said_left, end_of, line_of, refusal_of, SaysNext}
+use Rattle.zonetext.specs.Numbered.{said_left, end_of, line_of, SaysNext}
 use Rattle.zonetext.specs.Loading.{Adds}
 use Rattle.zonetext.proofs.Loading.{no_more, added_line, refused_line, undivided}
 use Rattle.zonetext.proofs.reading.add_sets.Goals as goal

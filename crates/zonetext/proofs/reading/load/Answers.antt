@@ -1,10 +1,9 @@
-use Rattle.std.proofs.Common.{◌≡◌, ◌⊎◌, codes, Ok, Err, inl, inr, ⊎_elim, sym, ap, ◌∙◌}
+use Rattle.std.proofs.Common.{inl, inr, ⊎_elim, sym, ap, ◌∙◌}
 use Rattle.std.proofs.lemmas.Result.{err_from_is_err_and}
 use Rattle.names.specs.Names.{labels}
-use Rattle.zones.specs.Zones.{zone_of}
-use Rattle.zonetext.specs.Texts.{fields, serial_of, times_of, with_lines, with_next, text_meaning}
+use Rattle.zonetext.specs.Texts.{with_lines}
 use Rattle.zonetext.specs.Numbered.{lines_left, said_left, end_of}
-use Rattle.zonetext.specs.Heads.{old_zone, times_for}
+use Rattle.zonetext.specs.Heads.{old_zone}
 use Rattle.zonetext.proofs.Loading.{behind_top, behind_number, behind_times, to_number, to_times, from_top}
 use Rattle.zonetext.proofs.reading.load.Goals as goal
 

@@ -1,11 +1,9 @@
-use Rattle.std.proofs.Common.{◌≡◌, ◌<◌, [], length, refl, ap, ◌∙◌, sym, arith, rules, tests}
+use Rattle.std.proofs.Common.{length, ◌∙◌, sym, arith, rules, tests}
 use Rattle.std.proofs.lemmas.Iterator.{YieldsList-from_slice}
 use Rattle.std.proofs.lemmas.Iterator.Search.{position_from_yields_List}
 use Rattle.std.proofs.lemmas.Bool.{eqb-true, eqb-false}
 use Rattle.std.proofs.lemmas.List.{take_rest}
 use Rattle.lines.proofs.Runs.{front_len}
-use Rattle.zonetext.specs.Texts.{lines_of}
-use Rattle.zonetext.specs.Numbered.{lines_left}
 use Rattle.zonetext.proofs.Lining.{next_is, no_lines, is_end}
 use Rattle.zonetext.proofs.numbered.Lines.next_line.Goals as goal
 

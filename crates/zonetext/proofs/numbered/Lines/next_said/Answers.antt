@@ -1,13 +1,12 @@
-use Rattle.std.proofs.Common.{rules, ◌≡◌, ◌+◌, ◌≤◌, ◌<◌, [], ◌∷◌, ◌⊎◌, map, length, Some, None, inl, inr, ⊎_elim, sym, ap, ◌∙◌, arith}
+use Rattle.std.proofs.Common.{rules, ◌≡◌, ◌+◌, ◌<◌, ◌⊎◌, map, length, Some, None, inl, inr, ⊎_elim, sym, ap, ◌∙◌, arith}
 use lib.ListN.{length-map}
-use Rattle.std.proofs.lemmas.Bool.{not-true, not-false, eqb-true, eqb-false}
 use Rattle.std.proofs.lemmas.List.{nil_from_length}
 use Rattle.std.proofs.lemmas.Result.{err_from_is_err_and}
 use Rattle.names.specs.declared.fault.Fault.TheVariants.{NoMemory, Malformed}
 use Rattle.zonetext.specs.Division.{pieces_of}
 use Rattle.zonetext.specs.Texts.{lines_of}
 use Rattle.zonetext.specs.Readings.{piece_of}
-use Rattle.zonetext.specs.Numbered.{lines_left, said_left, end_of}
+use Rattle.zonetext.specs.Numbered.{lines_left, end_of}
 use Rattle.zonetext.proofs.Lining.{passed_over, said_here, faulty_here, end_same, none_left, of_ok, of_err}
 use Rattle.zonetext.proofs.numbered.Lines.next_said.Goals.{In_default}
 use Rattle.zonetext.proofs.numbered.Lines.next_said.Goals as goal
