@@ -1,10 +1,10 @@
 #!/usr/bin/env python3
-"""What crates/texttable has to print, by a reading of the rules that knows nothing of the proved code.
+"""What crates/texttable has to print: a plain reading of the rules for zones' texts, apart from the proved code.
 
 usage: python3 tools/texttable.py < crates/texttable/stdin > crates/texttable/stdout
 
-It was written from the rules in docs/ alone: it finds all faults of a line and tells the lowest, where the code stops at the
-first that it meets in a fitting order. A difference between the two is a finding, never a reason to copy the program's output.
+It looks for all faults of a line and tells the lowest, where the code stops at the first that it meets, in a fitting order.
+Where the two differ, one of them reads the rules wrongly: so the stored output is made by this, never by the program itself.
 """
 import re
 import sys

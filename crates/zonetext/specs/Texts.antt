@@ -132,8 +132,8 @@ zone_with a n t = record { apex = a; serial = n; negative = t.negative; refresh 
 abbrev pub zone_in : Option Zone → ℕ → List Line → Result Zone Refusal
 zone_in old end ls =
     with_next end ls (λ o. top_of (fields (codes "top") o)) (λ apex ms.
-        with_next end ms (λ o. serial_of old apex (fields (codes "number") o)) (λ n ns.
-            with_next end ns (λ o. times_of (fields (codes "times") o)) (λ t rest. with_lines (zone_with apex n t) rest)))
+    with_next end ms (λ o. serial_of old apex (fields (codes "number") o)) (λ n ns.
+    with_next end ns (λ o. times_of (fields (codes "times") o)) (λ t rest. with_lines (zone_with apex n t) rest)))
 
 -- what a text means, beside the zone that was there
 unfoldable pub text_meaning : Option Zone → List ℕ → Result Zone Refusal

@@ -28,7 +28,12 @@ fn top(heap: Global, lines: &mut Lines) -> Result<Name, Refusal>
     Refusal::at(line.number, line.fields(b"top").and_then(read_top))
 }
 
-fn serial(heap: Global, lines: &mut Lines, old: Option<&Zone>, apex: &Name) -> Result<Serial, Refusal>
+fn serial(
+    heap: Global,
+    lines: &mut Lines,
+    old: Option<&Zone>,
+    apex: &Name,
+) -> Result<Serial, Refusal>
     ensures said { Begins (λ s. s.number) (end_of lines.old) (said_left lines.old) (λ o. serial_of (old_zone old.entry) (labels apex.now) (fields (codes "number") o)) result (said_left lines.new) }
     ensures end { end_of lines.new ≡ end_of lines.old }
 {
