@@ -2,6 +2,8 @@
 use names::Name;
 use records::{Data, Delegation, Ttl};
 
+pub mod copying;
+
 // In seconds since the resolver began.
 #[derive(Clone, Copy, PartialEq, Eq, PartialOrd, Ord, Debug)]
 pub struct Moment(pub u64);

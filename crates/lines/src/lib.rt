@@ -9,7 +9,8 @@ ghost use Rattle.lines.specs.Lines.{blank, read_part, words, with_digit, number_
 // The most bytes of a line that are read.
 pub const MAX_LINE: usize = 1200;
 
-fn is_blank(b: u8) -> bool
+// What parts words: a space or a tab.
+pub fn is_blank(b: u8) -> bool
     ensures { result ≡ blank b }
 {
     b == b' ' || b == b'\t'

@@ -1,0 +1,3 @@
+mod Owned
+mod Nearest
+mod Meant

@@ -1,1 +1,4 @@
 pub mod Clocks
+pub mod Having
+pub mod Meanings
+pub mod Owning

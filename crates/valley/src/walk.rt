@@ -1,77 +1,69 @@
-// A question by the sample zones, from the root down: what each zone on the way says, and for how long.
-use names::Name;
-use records::{Address, Data, Kind, RecordSet};
-use std::io;
+// What a question means by what the owners say now.
+ghost use Rattle.std.specs.Prelude.{◌≡◌, MatchOption, MatchResult};
+ghost use Rattle.names.specs.declared.fault.Fault.TheVariants.{NoMemory};
+ghost use Rattle.names.specs.Names.{labels};
+ghost use Rattle.protocol.specs.Words.{Ends, Goes, next};
+ghost use Rattle.cache.specs.Entries.{said_of};
+ghost use Rattle.walks.specs.Ways.{outcome_of};
+ghost use Rattle.valley.specs.Owning.{published_by};
+ghost use Rattle.valley.specs.Meanings.{meant_by, StandsFor};
+
+use crate::owners::Owners;
+use cache::{Said, Word};
+use names::{Fault, Name};
+use records::Kind;
+use std::alloc::Global;
 use walks::MAX_STEPS;
-use zones::{Reply, Zone};
 
-fn print_addresses(rt: &HostRuntime, addresses: &[Address]) -> io::Result<()> {
-    for address in addresses {
-        print!(rt; " {address}")?;
+#[derive(Drop)]
+pub enum Meaning {
+    // The word that ends the walk.
+    Word(Word),
+    TooLong,
+    // A zone on the way has no owner.
+    Nowhere,
+}
+
+// Where a walk is: the zone that is asked next, and for which name.
+#[derive(Clone, Copy)]
+struct Place {
+    apex: Name,
+    name: Name,
+}
+
+// Where a word leads, if it doesn't end the walk.
+#[tactic(auto, unfolding(protocol::specs::Words::next))]
+fn onward(said: &Said, name: &Name) -> Option<Place>
+    ensures { MatchOption result (next (said_of said.now) (labels name.now) ≡ Ends (outcome_of (said_of said.now))) (λ p. next (said_of said.now) (labels name.now) ≡ Goes (labels p.apex) (labels p.name)) }
+{
+    match said {
+        Said::Referral(referral) => Some(Place {
+            apex: referral.name,
+            name: *name,
+        }),
+        Said::Alias(to) => Some(Place {
+            apex: Name::root(),
+            name: *to,
+        }),
+        Said::Data(_) | Said::NoData | Said::NoName => None,
     }
-    Ok(())
 }
 
-fn print_data(rt: &HostRuntime, set: &RecordSet) -> io::Result<()> {
-    match set.data() {
-        Data::Addresses(addresses) => print_addresses(rt, addresses.as_slice()),
-        Data::Alias(to) => print!(rt; " {to}"),
-        Data::Delegation(to) => print_addresses(rt, to.servers.as_slice()),
-        Data::Texts(pieces) => print!(rt; " {} texts", pieces.len()),
-        Data::Others(pieces) => print!(rt; " {} pieces", pieces.len()),
-    }
-}
-
-fn print_reply(rt: &HostRuntime, zone: &Zone, reply: &Reply) -> io::Result<()> {
-    let apex = zone.apex();
-    print!(rt; "  {apex} says ")?;
-    match reply {
-        Reply::Data(set) => {
-            print!(rt; "data")?;
-            print_data(rt, set)?;
-        }
-        Reply::Alias(set) => {
-            print!(rt; "alias")?;
-            print_data(rt, set)?;
-        }
-        Reply::Referral(set) => {
-            let name = set.name();
-            print!(rt; "cut {name}")?;
-            print_data(rt, set)?;
-        }
-        Reply::NoData => print!(rt; "empty")?,
-        Reply::NoName => print!(rt; "absent")?,
-    }
-    let ttl = zone.ttl_of(reply).0;
-    println!(rt; ", time {ttl}")
-}
-
-fn find<'a>(zones: &'a [Zone], apex: &Name) -> Option<&'a Zone> {
-    zones.iter().find(|zone| *zone.apex() == *apex)
-}
-
-pub fn walk(rt: &HostRuntime, zones: &[Zone], asked: &Name, kind: Kind) -> io::Result<()> {
-    let mut apex = Name::root();
-    let mut name = *asked;
-    for _ in 0..MAX_STEPS {
-        let Some(zone) = find(zones, &apex) else {
-            return println!(rt; "  {apex} is nowhere");
+pub fn meant(heap: Global, owners: &Owners, asked: &Name, kind: Kind) -> Result<Meaning, Fault>
+    ensures { MatchResult result (λ m. StandsFor m (meant_by (published_by owners.now) (labels asked.now) kind.number)) (λ f. f ≡ NoMemory) }
+{
+    let mut place = Place {
+        apex: Name::root(),
+        name: *asked,
+    };
+    for _step in 0..MAX_STEPS {
+        let Some(word) = owners.tell(heap, &place.apex, &place.name, kind)? else {
+            return Ok(Meaning::Nowhere);
         };
-        let Some(reply) = zone.lookup(&name, kind) else {
-            return println!(rt; "  {apex} says nothing of {name}");
-        };
-        print_reply(rt, zone, &reply)?;
-        match reply {
-            Reply::Referral(set) => apex = *set.name(),
-            Reply::Alias(set) => {
-                let Data::Alias(to) = set.data() else {
-                    return Ok(());
-                };
-                name = *to;
-                apex = Name::root();
-            }
-            _ => return Ok(()),
+        match onward(&word.said, &place.name) {
+            Some(next) => place = next,
+            None => return Ok(Meaning::Word(word)),
         }
     }
-    println!(rt; "  too long")
+    Ok(Meaning::TooLong)
 }

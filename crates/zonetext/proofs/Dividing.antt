@@ -5,7 +5,7 @@ use Rattle.std.proofs.lemmas.List.{append-nil, at_drop_more, at_drop_all, take_m
 use Rattle.std.proofs.lemmas.Bool.{cond-true, cond-false, le-leb}
 use Rattle.lines.specs.Lines.{blank, run}
 use Rattle.zonetext.specs.Division.{Piece, Word, Text, read_from, read_part, quoted_after, in_word, in_text, may_end, First, Nothing, Faulty, Has, closed, worded, begun, first_piece, on_first, pieces_upto, pieces_in, pieces_of}
-use Rattle.zonetext.proofs.Runs.{run_nil}
+use Rattle.lines.proofs.Runs.{run_nil}
 
 -- ---- what is read
 

@@ -5,7 +5,7 @@ use Rattle.names.specs.declared.fault.Fault.TheVariants.{NoMemory, Malformed}
 use Rattle.meaning.specs.Model.{Zone}
 use Rattle.zonetext.specs.declared.refusal.Refusal as declared
 use Rattle.zonetext.specs.Division.{Piece}
-use Rattle.zonetext.specs.Texts.{Line, Refusal, Times, lines_of, numbered, fields, top_of, serial_of, times_of, set_in, then, with_set, with_lines, with_next, zone_with, zone_in, text_meaning}
+use Rattle.zonetext.specs.Texts.{Line, Refusal, Times, lines_of, numbered, fields, top_of, serial_of, times_of, set_in, then, with_set, with_lines, with_next, zone_with, zone_in, top_from, top_in, text_meaning}
 use Rattle.zonetext.specs.Numbered.{refusal_of, Undivided}
 
 module _ (z : Zone) where
@@ -47,10 +47,14 @@ module _ (due : Result Zone Refusal) (old : Option Zone) (end0 end : ℕ) (a : L
   pub to_times : (n : ℕ) → due ≡ behind_number end0 a n ls → due ≡ with_next end ls (λ o. times_of (fields (codes "times") o)) (λ t ms. behind_times a n t ms)
   to_times n h = h ∙ ap (λ e. with_next e ls (λ o. times_of (fields (codes "times") o)) (λ t ms. behind_times a n t ms)) (sym same_end)
 
-module _ (old : Option Zone) (text : List ℕ) (n : ℕ) (ls : List (List ℕ)) (lines : ls ≡ lines_of text) (first : n ≡ 1) where
-  pub from_top : text_meaning old text ≡ with_next (n + length ls) (numbered n ls) (λ o. top_of (fields (codes "top") o)) (λ a ms. behind_top old (n + length ls) a ms)
+module _ (text : List ℕ) (n : ℕ) (ls : List (List ℕ)) (lines : ls ≡ lines_of text) (first : n ≡ 1) where
+  same_end : suc (length (lines_of text)) ≡ n + length ls
+  same_end = let e = ap length lines in omega arith
+
+  pub top_is : top_in text ≡ top_from (n + length ls) (numbered n ls)
+  unfolding top_in
+  top_is = λ i. top_from (same_end i) (numbered (sym first i) (sym lines i))
+
+  pub from_top : (old : Option Zone) → text_meaning old text ≡ with_next (n + length ls) (numbered n ls) (λ o. top_of (fields (codes "top") o)) (λ a ms. behind_top old (n + length ls) a ms)
   unfolding text_meaning
-  from_top = λ i. zone_in old (end i) (numbered (sym first i) (sym lines i))
-    where
-      end : suc (length (lines_of text)) ≡ n + length ls
-      end = let e = ap length lines in omega arith
+  from_top old = λ i. zone_in old (same_end i) (numbered (sym first i) (sym lines i))

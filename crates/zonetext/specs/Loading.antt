@@ -2,6 +2,8 @@
 use Rattle.std.specs.Prelude.{◌≡◌, ℕ, ◌⊎◌, List, Some, Ok, Err, codes, Option, Result}
 use Rattle.names.specs.declared.fault.Fault.{Fault}
 use Rattle.names.specs.declared.fault.Fault.TheVariants.{NoMemory}
+use Rattle.names.specs.declared.name.Name.{Name}
+use Rattle.names.specs.Names.{labels}
 use Rattle.meaning.specs.Model as model
 use Rattle.zones.specs.declared.zone.Zone.{Zone}
 use Rattle.zones.specs.Zones.{zone_of}
@@ -29,3 +31,7 @@ AddsAll before ls (Err r) after = (r.fault ≡ NoMemory) ⊎ (with_lines before 
 abbrev pub Loads : Result model.Zone Refusal → Result Zone declared.Refusal → Type 0
 Loads due (Ok z) = due ≡ Ok (zone_of z)
 Loads due (Err r) = (r.fault ≡ NoMemory) ⊎ (due ≡ Err (refusal_of r))
+
+abbrev pub Tops : Result (List (List ℕ)) Refusal → Result Name declared.Refusal → Type 0
+Tops due (Ok n) = due ≡ Ok (labels n)
+Tops due (Err r) = (r.fault ≡ NoMemory) ⊎ (due ≡ Err (refusal_of r))

@@ -135,6 +135,14 @@ zone_in old end ls =
     with_next end ms (λ o. serial_of old apex (fields (codes "number") o)) (λ n ns.
     with_next end ns (λ o. times_of (fields (codes "times") o)) (λ t rest. with_lines (zone_with apex n t) rest)))
 
+-- the apex of a text, by its first line that says something
+abbrev pub top_from : ℕ → List Line → Result (List (List ℕ)) Refusal
+top_from end [] = Err (record { line = end; fault = Malformed })
+top_from end (l ∷ ls) = then l.number (top_of (fields (codes "top") l.pieces)) (λ a. Ok a)
+
+unfoldable pub top_in : List ℕ → Result (List (List ℕ)) Refusal
+top_in text = top_from (suc (length (lines_of text))) (numbered 1 (lines_of text))
+
 -- what a text means, beside the zone that was there
 unfoldable pub text_meaning : Option Zone → List ℕ → Result Zone Refusal
 text_meaning old text = zone_in old (suc (length (lines_of text))) (numbered 1 (lines_of text))

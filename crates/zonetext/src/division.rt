@@ -6,7 +6,7 @@ ghost use Rattle.zonetext.specs.Division.{in_word, in_text, may_end, closed, wor
 ghost use Rattle.zonetext.specs.Readings.{piece_of};
 ghost use Rattle.zonetext.specs.Cuts.{Cuts};
 
-use lines::MAX_LINE;
+use lines::{MAX_LINE, is_blank};
 use names::Fault;
 use std::alloc::Global;
 
@@ -31,12 +31,6 @@ pub fn read_part(line: &[u8]) -> &[u8]
         }
     }
     line
-}
-
-fn is_blank(b: u8) -> bool
-    ensures { result ≡ blank b }
-{
-    b == b' ' || b == b'\t'
 }
 
 // Can a word hold this byte? The printable ones, but no quote.

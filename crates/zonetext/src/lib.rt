@@ -10,7 +10,7 @@ mod reading;
 mod refusal;
 
 pub use checking::{DAY, outlasts_a_day, points_nowhere};
-pub use reading::{MAX_TRANSFER, load};
+pub use reading::{MAX_TRANSFER, apex_of, load};
 pub use refusal::Refusal;
 
 #[cfg(test)]

@@ -2,11 +2,11 @@
 ghost use Rattle.std.specs.Prelude.{◌≡◌, codes, map};
 ghost use Rattle.names.specs.Names.{labels};
 ghost use Rattle.zones.specs.Zones.{zone_of};
-ghost use Rattle.zonetext.specs.Texts.{fields, top_of, serial_of, times_of, text_meaning};
+ghost use Rattle.zonetext.specs.Texts.{fields, top_of, serial_of, times_of, top_from, top_in, text_meaning};
 ghost use Rattle.zonetext.specs.Readings.{piece_of};
 ghost use Rattle.zonetext.specs.Numbered.{said_left, end_of};
 ghost use Rattle.zonetext.specs.Heads.{times_for, old_zone};
-ghost use Rattle.zonetext.specs.Loading.{Begins, Adds, AddsAll, Loads};
+ghost use Rattle.zonetext.specs.Loading.{Tops, Begins, Adds, AddsAll, Loads};
 
 use crate::fields::record_set;
 use crate::heads::{read_serial, read_times, read_top};
@@ -21,6 +21,7 @@ use zones::{Times, Zone};
 pub const MAX_TRANSFER: usize = 1_048_576;
 
 fn top(heap: Global, lines: &mut Lines) -> Result<Name, Refusal>
+    ensures apex { Tops (top_from (end_of lines.old) (said_left lines.old)) result }
     ensures said { Begins labels (end_of lines.old) (said_left lines.old) (λ o. top_of (fields (codes "top") o)) result (said_left lines.new) }
     ensures end { end_of lines.new ≡ end_of lines.old }
 {
@@ -70,6 +71,14 @@ fn add_sets(heap: Global, zone: &mut Zone, lines: &mut Lines) -> Result<(), Refu
         Refusal::at(line.number, add_set(heap, zone, &line))?;
     }
     Ok(())
+}
+
+// The apex of a text, by which the zone is found that it is to renew.
+pub fn apex_of(heap: Global, text: &[u8]) -> Result<Name, Refusal>
+    ensures { Tops (top_in text.now) result }
+{
+    let mut lines = Lines::new(text);
+    top(heap, &mut lines)
 }
 
 // The zone that a text means, in the place of the one that was there; or its first faulty line with its lowest fault.

@@ -1,0 +1,101 @@
+// Packets, numbered from 1 in the order in which they were sent. A packet stays, and may be brought again.
+ghost use Rattle.std.specs.Prelude.{◌≡◌, ℕ, ◌+◌, [], ◌∷◌, ◌++◌, length, IfOk};
+ghost use Rattle.std.specs.List.{slice_get};
+ghost use Rattle.std.specs.Option.{option_map};
+
+use cache::{Moment, QueryId, Word};
+use names::{Fault, Name};
+use questions::Query;
+use resolver::Response;
+use std::alloc::Global;
+
+// A query, and who asks.
+#[derive(Clone, Copy)]
+pub struct Asked {
+    pub asker: u64,
+    pub query: Query,
+}
+
+// A response, and to whom; the server had the zone as of the moment, which the response doesn't carry.
+#[derive(Drop)]
+pub struct Told {
+    pub asker: u64,
+    pub server: u64,
+    pub id: QueryId,
+    pub apex: Name,
+    pub word: Word,
+    pub moment: Moment,
+}
+
+#[derive(Drop)]
+pub enum Packet {
+    Query(Asked),
+    Response(Told),
+}
+
+#[derive(Drop)]
+pub struct Net {
+    packets: Vec<Packet>,
+}
+
+impl Asked {
+    // The number of the server that is asked.
+    pub fn server(&self) -> u64 {
+        u64::from_be_bytes(self.query.server.0)
+    }
+}
+
+impl Told {
+    fn copied(&self, heap: Global) -> Result<Told, Fault> {
+        let word = self.word.copied(heap)?;
+        Ok(Told {
+            asker: self.asker,
+            server: self.server,
+            id: self.id,
+            apex: self.apex,
+            word,
+            moment: self.moment,
+        })
+    }
+
+    // As the asker hears it.
+    pub fn response(self) -> Response {
+        Response {
+            id: self.id,
+            apex: self.apex,
+            word: self.word,
+        }
+    }
+}
+
+impl Packet {
+    pub fn copied(&self, heap: Global) -> Result<Packet, Fault> {
+        Ok(match self {
+            Packet::Query(asked) => Packet::Query(*asked),
+            Packet::Response(told) => Packet::Response(told.copied(heap)?),
+        })
+    }
+}
+
+impl Net {
+    pub fn new(heap: Global) -> Net {
+        Net {
+            packets: Vec::new(heap),
+        }
+    }
+
+    // The packet's number.
+    pub fn send(&mut self, packet: Packet) -> Result<u64, Fault>
+        ensures { IfOk result (λ n. (self.new.packets.items ≡ self.old.packets.items ++ packet ∷ []) × (n ≡ length self.new.packets.items)) }
+    {
+        self.packets.push(packet)?;
+        Ok(self.packets.len() as u64)
+    }
+
+    pub fn get(&self, number: u64) -> Option<&Packet>
+        ensures { (i : ℕ) → number ≡ i + 1 → option_map (λ p. p.now) result ≡ slice_get self.now.packets.items i }
+    {
+        let place = usize::try_from(number.checked_sub(1)?).ok()?;
+        self.packets.get(place)
+    }
+}
