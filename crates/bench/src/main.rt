@@ -1,9 +1,11 @@
 // Counts what the service does, for a tool that counts instructions: `lookup SETS N` loads a zone of that many sets and asks
-// it N questions; `recall QUESTIONS N` lets a resolver learn so many questions and asks it N.
+// it N questions; `recall QUESTIONS N` lets a resolver learn so many questions and asks it N; `read SETS N` reads the text of a
+// zone of that many sets N times.
 #![tactic(auto)]
 
 mod load;
 mod questions;
+mod reading;
 mod recall;
 
 use lines::number;
@@ -75,9 +77,22 @@ fn recalls(rt: &HostRuntime, heap: Global, questions: u64, wanted: u64) -> io::R
     println!(rt; "answered {answered}")
 }
 
+fn readings(rt: &HostRuntime, heap: Global, sets: u64, times: u64) -> io::Result<()> {
+    let text = reading::text(heap, &load::Plan::new(sets)).map_err(|_| io::Error::other(
+        "no text",
+    ))?;
+    let read = reading::sets_read(heap, text.as_slice(), times).map_err(|_| io::Error::other(
+        "no zone's text",
+    ))?;
+    let bytes = text.len();
+    println!(rt; "bytes {bytes}")?;
+    println!(rt; "sets read {read}")
+}
+
 fn usage(rt: &HostRuntime) -> io::Result<()> {
     println!(rt; "usage: bench lookup SETS N")?;
-    println!(rt; "       bench recall QUESTIONS N")
+    println!(rt; "       bench recall QUESTIONS N")?;
+    println!(rt; "       bench read SETS N")
 }
 
 fn run(rt: &HostRuntime, heap: Global) -> io::Result<()> {
@@ -92,6 +107,7 @@ fn run(rt: &HostRuntime, heap: Global) -> io::Result<()> {
     match mode.as_str() {
         "lookup" => lookups(rt, heap, size, wanted),
         "recall" => recalls(rt, heap, size, wanted),
+        "read" => readings(rt, heap, size, wanted),
         _ => usage(rt),
     }
 }
