@@ -17,6 +17,7 @@ pub use reading::{MAX_TRANSFER, apex_of, load};
 pub use refusal::Refusal;
 pub use writing::write;
 
+// What is written of a zone is read as that zone, and what is read of that is written as it was.
 pub fn text_laws()
     ensures { TextLaws }
 {}
