@@ -3,13 +3,13 @@
 // zone of that many sets N times.
 #![tactic(auto)]
 
+mod asking;
 mod load;
-mod questions;
 mod reading;
 mod recall;
 
+use asking::Question;
 use lines::number;
-use questions::Question;
 use std::alloc::Global;
 use std::{env, fmt, io};
 use zones::{Reply, Zone};
@@ -58,7 +58,7 @@ impl fmt::Display for Tally {
 fn lookups(rt: &HostRuntime, heap: Global, sets: u64, wanted: u64) -> io::Result<()> {
     let plan = load::Plan::new(sets);
     let made = load::zone(heap, &plan).map_err(|_| io::Error::other("no such zone"))?;
-    let questions = questions::mix(heap, &plan).map_err(|_| io::Error::other("no such questions"))?;
+    let questions = asking::mix(heap, &plan).map_err(|_| io::Error::other("no such questions"))?;
     let tally = ask(&made, questions.as_slice(), wanted);
     let loaded = made.sets().len();
     println!(rt; "sets {loaded}")?;
