@@ -1,0 +1,5 @@
+pub mod Cuts
+pub mod Shapes
+pub mod Packets
+pub mod Laws
+pub mod Fields

@@ -1,0 +1,4 @@
+// Packets: bytes on the wire, read exactly or refused.
+#![tactic(auto)]
+
+mod fields;
