@@ -1,1 +1,3 @@
 mod Cutting
+mod Shaping
+mod Putting

@@ -29,6 +29,6 @@ then None f = None
 then (Some p) f = f p.0 p.1
 
 -- nothing may be left over
-abbrev pub at_end : {A : Type 0} → A → List ℕ → Option A
+unfoldable pub at_end : {A : Type 0} → A → List ℕ → Option A
 at_end x [] = Some x
 at_end x (b ∷ bs) = None

@@ -3,3 +3,6 @@ pub mod Shapes
 pub mod Packets
 pub mod Laws
 pub mod Fields
+pub mod Given
+pub mod Whats
+pub mod Tellings

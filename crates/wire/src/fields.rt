@@ -15,7 +15,7 @@ pub struct Fields<'a> {
 }
 
 // The piece at the front behind its length, and what follows it.
-fn cut_piece(bytes: &[u8]) -> Option<(&[u8], &[u8])>
+pub fn cut_piece(bytes: &[u8]) -> Option<(&[u8], &[u8])>
     ensures { option_map (λ p. (p.0.now, p.1.now)) result ≡ cut_label bytes.now }
 {
     let (len, rest) = bytes.split_first()?;
