@@ -1,17 +1,18 @@
 -- What is cut off the front of a packet: the cuts by what was found, and the loop that walks a list.
-use Rattle.std.proofs.Common.{◌≡◌, ℕ, zero, suc, ◌+◌, ◌-◌, ◌<◌, ◌≤◌, Bool, true, false, cond, leb, List, [], ◌∷◌, ◌++◌, length, get_or, take, drop, Some, None, Ok, Err, Option, Result, sym, refl, ap, ◌∙◌, append_assoc, append-nil, arith, length-append}
+use Rattle.std.proofs.Common.{◌≡◌, ℕ, zero, suc, ◌+◌, ◌-◌, ◌<◌, ◌≤◌, Bool, true, false, cond, ◌&&◌, leb, List, [], ◌∷◌, ◌++◌, length, get_or, take, drop, Some, None, Ok, Err, Option, Result, sym, refl, ap, ◌∙◌, append_assoc, append-nil, arith, length-append}
 use Rattle.std.specs.Int.{Width, byte_len, from_be_bytes}
 use Rattle.std.specs.List.{between}
+use Rattle.std.specs.Option.{option_map}
 use Rattle.std.proofs.lemmas.Slice.{first_rest}
 use Rattle.std.proofs.lemmas.List.{take_at, drop_at}
 use Rattle.std.proofs.lemmas.Bool.{cond-true, cond-false, le-leb, lt-leb}
 use Rattle.names.specs.declared.fault.Fault.{Fault}
 use Rattle.names.specs.declared.fault.Fault.TheVariants.{BadName}
-use Rattle.names.specs.Labels.{proper}
+use Rattle.names.specs.Labels.{proper, written}
 use Rattle.names.specs.Names.{name_of}
 use Rattle.names.specs.Wire.{wire_labels, wire, cut_label, behind, cut_labels, judged, read_wire, name_read}
 use Rattle.names.proofs.Cutting.{cut_one, cut_none, labels_back, cut_back}
-use Rattle.wire.specs.Cuts.{cut_byte, cut_number, cut_list}
+use Rattle.wire.specs.Cuts.{cut_byte, cut_number, cut_list, cut_list_if, cut_what, then}
 
 -- ---- bytes and numbers
 
@@ -134,3 +135,32 @@ name_back ls bs h =
     told : (b : Bool) → name_read (cond b (Ok (ls, [])) (Err BadName)) ≡ cond b (Ok ls) (Err BadName)
     told true = refl
     told false = refl
+
+-- ---- a name that is there or not, and what a response is
+
+pub list_there : (b : Bool) (bs : List ℕ) → b ≡ true → cut_list_if b bs ≡ cut_list bs
+unfolding cut_list_if
+list_there b bs h = cond-true b (cut_list bs) (Some ([], bs)) h
+
+pub no_list_there : (b : Bool) (bs : List ℕ) → b ≡ false → cut_list_if b bs ≡ Some ([], bs)
+unfolding cut_list_if
+no_list_there b bs h = cond-false b (cut_list bs) (Some ([], bs)) h
+
+pub root_name : name_of [] ≡ Ok []
+unfolding proper written
+root_name = refl
+
+pub what_there : (bs : List ℕ) (o : Option ℕ) → 0 < length bs → o ≡ cond (leb 1 (get_or bs 0 0) && leb (get_or bs 0 0) 7) (Some (get_or bs 0 0)) None → cut_what bs ≡ option_map (λ n. (n, between 1 (length bs) bs)) o
+unfolding cut_what
+what_there bs o h e =
+    ap (λ c. then c (λ what rest. cond (leb 1 what && leb what 7) (Some (what, rest)) None)) (one_byte bs h)
+    ∙ go (leb 1 (get_or bs 0 0) && leb (get_or bs 0 0) 7)
+    ∙ ap (option_map (λ n. (n, between 1 (length bs) bs))) (sym e)
+  where
+    go : (c : Bool) → cond {A = Option (ℕ × List ℕ)} c (Some (get_or bs 0 0, between 1 (length bs) bs)) None ≡ option_map (λ n. (n, between 1 (length bs) bs)) (cond c (Some (get_or bs 0 0)) None)
+    go true = refl
+    go false = refl
+
+pub no_what : (bs : List ℕ) → length bs ≡ 0 → cut_what bs ≡ None
+unfolding cut_what
+no_what bs h = ap (λ c. then c (λ what rest. cond (leb 1 what && leb what 7) (Some (what, rest)) None)) (no_byte bs h)

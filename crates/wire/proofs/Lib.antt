@@ -1,3 +1,5 @@
 mod Cutting
 mod Shaping
 mod Putting
+mod Copying
+mod Telling

@@ -1,6 +1,9 @@
 -- Writing piece by piece: what is written so far, behind what was there.
-use Rattle.std.proofs.Common.{◌≡◌, ℕ, ◌+◌, ◌<◌, ◌≤◌, Bool, true, false, cond, leb, List, [], ◌∷◌, ◌++◌, length, Some, None, Option, sym, refl, ap, ◌∙◌, append_assoc, append-nil, arith, length-append}
-use Rattle.std.proofs.lemmas.Bool.{cond-true, cond-false, leb-false, lt-leb}
+use Rattle.std.proofs.Common.{◌≡◌, ℕ, zero, suc, ◌+◌, ◌&&◌, map, get_or, drop, ◌<◌, ◌≤◌, Bool, true, false, cond, leb, List, [], ◌∷◌, ◌++◌, length, Some, None, Option, sym, refl, ap, ◌∙◌, append_assoc, append-nil, arith, length-append}
+use Rattle.std.proofs.lemmas.Bool.{cond-true, cond-false, leb-false, lt-leb, leb-true, and_parts}
+use Rattle.std.proofs.lemmas.List.{drop_more, drop_all}
+use lib.ListN.{length-map}
+use Rattle.meaning.specs.Model.{total, short, pieces_fit}
 use Rattle.names.specs.Wire.{wire_labels, wire}
 use Rattle.names.proofs.Appending.{wire_push}
 use Rattle.wire.specs.Given.{short_enough, joined}
@@ -50,3 +53,46 @@ unfolding wire
 all_put before now ls left p h =
     let whole : p.done ≡ ls = sym (p.parted ∙ ap (λ x. p.done ++ x) h ∙ append-nil p.done) in
     p.so ∙ ap (λ x. joined before (length ls ∷ wire_labels x)) whole
+
+-- the items of a slice, those from i on left
+module _ {X : Type 0} (bytes : X → List ℕ) (xs : List X) where
+  abbrev pub Behind : Option (List ℕ) → Option (List ℕ) → ℕ → Type 0
+  Behind before now i = Listing before now (map bytes xs) (map bytes (drop i xs))
+
+  pub none_behind : (before now : Option (List ℕ)) (n : ℕ) → n ≡ length xs → now ≡ joined before (n ∷ []) → Behind before now 0
+  none_behind before now n e k = none_put before now n (map bytes xs) (map bytes xs) (e ∙ sym (length-map xs bytes)) refl k
+
+  pub one_behind : (before now after : Option (List ℕ)) (i : ℕ) (x : X) → Behind before now i → i < length xs → x ≡ get_or xs i x → after ≡ joined now (length (bytes x) ∷ bytes x) → Behind before after (i + 1)
+  one_behind before now after i x p l e k =
+      one_put before now after (map bytes xs) (map bytes (drop i xs)) (map bytes (drop (i + 1) xs)) (bytes x) p
+      (ap (map bytes) (drop_more xs i x l) ∙ ap (λ y. bytes y ∷ map bytes (drop (i + 1) xs)) (sym e)) k
+
+  pub all_behind : (before now : Option (List ℕ)) (i : ℕ) → Behind before now i → length xs ≤ i → now ≡ joined before (wire (map bytes xs))
+  all_behind before now i p l = all_put before now (map bytes xs) (map bytes (drop i xs)) p (ap (map bytes) (drop_all i xs l))
+
+  short_at : (ys : List X) (i : ℕ) (x : X) → short (map bytes ys) ≡ true → i < length ys → x ≡ get_or ys i x → length (bytes x) ≤ 255
+  short_at [] i x h l e = absurd (omega arith)
+  short_at (y ∷ ys) zero x h l e =
+      let p = and_parts (leb (length (bytes y)) 255) (short (map bytes ys)) h in
+      let q = leb-true (length (bytes y)) 255 p.0 in
+      let same = ap (λ z. length (bytes z)) e in
+      omega arith
+  short_at (y ∷ ys) (suc i) x h l e = short_at ys i x (and_parts (leb (length (bytes y)) 255) (short (map bytes ys)) h).1 (omega arith) e
+
+  pub short_piece : (i : ℕ) (x : X) → pieces_fit (map bytes xs) ≡ true → i < length xs → x ≡ get_or xs i x → length (bytes x) < 256
+  short_piece i x h l e =
+      let p = and_parts (leb (length (map bytes xs)) 16 && short (map bytes xs)) (leb (total (map bytes xs)) 600) h in
+      let q = short_at xs i x (and_parts (leb (length (map bytes xs)) 16) (short (map bytes xs)) p.0).1 l e in
+      omega arith
+
+  pub few_pieces : pieces_fit (map bytes xs) ≡ true → length xs ≤ 16
+  few_pieces h =
+      let p = and_parts (leb (length (map bytes xs)) 16 && short (map bytes xs)) (leb (total (map bytes xs)) 600) h in
+      let q = leb-true (length (map bytes xs)) 16 (and_parts (leb (length (map bytes xs)) 16) (short (map bytes xs)) p.0).0 in
+      let n = length-map xs bytes in
+      omega arith
+
+-- a list without pieces
+pub no_pieces : wire [] ≡ 0 ∷ []
+unfolding wire wire_labels
+no_pieces = refl

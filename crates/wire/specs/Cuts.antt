@@ -1,5 +1,5 @@
 -- What is cut off the front of a packet: numbers, and lists of pieces behind their lengths. Assumes nothing.
-use Rattle.std.specs.Prelude.{ℕ, Bool, cond, List, [], ◌∷◌, length, take, drop, Some, None, Option, nat_le}
+use Rattle.std.specs.Prelude.{ℕ, Bool, cond, ◌&&◌, List, [], ◌∷◌, length, take, drop, Some, None, Option, nat_le}
 use Rattle.std.specs.Int.{Width, byte_len, from_be_bytes}
 use Rattle.names.specs.Wire.{cut_labels}
 
@@ -19,7 +19,7 @@ cut_list [] = None
 cut_list (n ∷ bs) = cut_labels n bs
 
 -- a name that is there only sometimes; the root stands for none
-abbrev pub cut_list_if : Bool → List ℕ → Option (List (List ℕ) × List ℕ)
+unfoldable pub cut_list_if : Bool → List ℕ → Option (List (List ℕ) × List ℕ)
 cut_list_if b bs = cond b (cut_list bs) (Some ([], bs))
 
 -- ---- one after the other
@@ -27,6 +27,10 @@ cut_list_if b bs = cond b (cut_list bs) (Some ([], bs))
 abbrev pub then : {A B : Type 0} → Option (A × List ℕ) → (A → List ℕ → Option B) → Option B
 then None f = None
 then (Some p) f = f p.0 p.1
+
+-- what a response is: a number from 1 to 7
+unfoldable pub cut_what : List ℕ → Option (ℕ × List ℕ)
+cut_what bs = then (cut_byte bs) (λ what rest. cond (nat_le 1 what && nat_le what 7) (Some (what, rest)) None)
 
 -- nothing may be left over
 unfoldable pub at_end : {A : Type 0} → A → List ℕ → Option A

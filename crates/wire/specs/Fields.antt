@@ -5,6 +5,8 @@ use Rattle.names.specs.declared.fault.Fault.{Fault}
 use Rattle.names.specs.declared.name.Name.{Name}
 use Rattle.names.specs.Names.{name_of, given}
 use Rattle.names.specs.Wire.{wire}
+use Rattle.wire.specs.declared.what.What.{What}
+use Rattle.wire.specs.Whats.{number_of}
 use Rattle.wire.specs.declared.fields.Fields.{Fields}
 
 abbrev pub unread : Fields → List ℕ
@@ -26,3 +28,7 @@ IsList ps s = s.now ≡ wire ps
 -- the name of these labels, if they make one
 abbrev pub IsName : List (List ℕ) → Result Name Fault → Type 0
 IsName ls r = given r ≡ name_of ls
+
+abbrev pub TakesWhat : Option (ℕ × List ℕ) → List ℕ → Option What → List ℕ → Type 0
+TakesWhat due before None after = (due ≡ None) × (after ≡ before)
+TakesWhat due before (Some w) after = due ≡ Some (number_of w, after)

@@ -6,3 +6,4 @@ pub mod Fields
 pub mod Given
 pub mod Whats
 pub mod Tellings
+pub mod Responses

@@ -1,8 +1,8 @@
 -- The shape of a packet: all its lengths walked, and nothing judged yet. What has no shape is malformed. Assumes nothing.
-use Rattle.std.specs.Prelude.{ℕ, zero, suc, Bool, cond, ◌&&◌, ◌||◌, List, [], ◌∷◌, length, Some, None, Option, ◌==◌, nat_le}
+use Rattle.std.specs.Prelude.{ℕ, zero, suc, Bool, cond, ◌||◌, List, [], ◌∷◌, length, Some, None, Option, ◌==◌, nat_le}
 use Rattle.std.specs.Int.{w16, w32, w64}
 use Rattle.std.specs.Option.{option_map}
-use Rattle.wire.specs.Cuts.{cut_byte, cut_number, cut_list, cut_list_if, then, at_end}
+use Rattle.wire.specs.Cuts.{cut_byte, cut_number, cut_list, cut_list_if, cut_what, then, at_end}
 
 pub record QueryShape : Type 0 where
   pub id : ℕ
@@ -68,12 +68,10 @@ unfoldable pub response_shape : List ℕ → Option ResponseShape
 response_shape bs =
     then (cut_number w64 bs) (λ id r1.
     then (cut_list r1) (λ apex r2.
-    then (cut_byte r2) (λ what r3.
-    cond (nat_le 1 what && nat_le what 7)
-    (then (cut_number w32 r3) (λ ttl r4.
+    then (cut_what r2) (λ what r3.
+    then (cut_number w32 r3) (λ ttl r4.
     then (cut_list_if (names_one what) r4) (λ name r5.
-    then (cut_list r5) (λ pieces r6. at_end (record { id = id; apex = apex; what = what; ttl = ttl; name = name; pieces = pieces }) r6))))
-    None)))
+    then (cut_list r5) (λ pieces r6. at_end (record { id = id; apex = apex; what = what; ttl = ttl; name = name; pieces = pieces }) r6))))))
 
 unfoldable pub request_shape : List ℕ → Option RequestShape
 request_shape bs =

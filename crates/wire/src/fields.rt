@@ -2,10 +2,11 @@
 ghost use Rattle.std.specs.Prelude.{◌≡◌, [], length, nat_eq, MatchOption};
 ghost use Rattle.std.specs.Option.{option_map};
 ghost use Rattle.std.specs.Int.{w16, w32, w64};
-ghost use Rattle.wire.specs.Cuts.{cut_byte, cut_number, cut_list};
-ghost use Rattle.wire.specs.Fields.{unread, Takes, TakesNumber, IsList, IsName};
+ghost use Rattle.wire.specs.Cuts.{cut_byte, cut_number, cut_list, cut_list_if, cut_what};
+ghost use Rattle.wire.specs.Fields.{unread, Takes, TakesNumber, IsList, IsName, TakesWhat};
 ghost use Rattle.names.specs.Wire.{cut_label};
 
+use crate::what::What;
 use names::{Fault, Name, Reader};
 
 // What is cut short stays as it is.
@@ -104,5 +105,29 @@ impl<'a> Fields<'a> {
             return None;
         };
         Some(Reader::new(list).name())
+    }
+
+    // A name, or nothing at all, which the root stands for.
+    pub fn name_if(&mut self, there: bool) -> Option<Result<Name, Fault>>
+        ensures { Takes IsName (cut_list_if there (unread self.old)) (unread self.old) result (unread self.new) }
+    {
+        if there {
+            self.name()
+        } else {
+            Some(Ok(Name::root()))
+        }
+    }
+
+    pub fn what(&mut self) -> Option<What>
+        ensures { TakesWhat (cut_what (unread self.old)) (unread self.old) result (unread self.new) }
+    {
+        let [number, rest @ ..] = self.rest else {
+            return None;
+        };
+        let Some(what) = What::from_number(*number) else {
+            return None;
+        };
+        self.rest = rest;
+        Some(what)
     }
 }

@@ -4,7 +4,7 @@ ghost use Rattle.std.specs.Option.{option_map};
 ghost use Rattle.wire.specs.Shapes.{names_one};
 ghost use Rattle.wire.specs.Whats.{number_of};
 
-#[derive(Clone, Copy, PartialEq, Eq)]
+#[derive(Clone, Copy)]
 pub enum What {
     Data,
     Alias,
