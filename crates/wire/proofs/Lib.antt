@@ -3,3 +3,7 @@ mod Shaping
 mod Putting
 mod Copying
 mod Telling
+mod Sizes
+mod Backs
+mod Undone
+mod Laws
