@@ -14,7 +14,7 @@ use Rattle.meaning.specs.Model.{is_kind, pieces_fit}
 use Rattle.records.specs.Numbers.{kind_of}
 use Rattle.wire.specs.Cuts.{cut_byte, cut_number, cut_list, cut_list_if, cut_what, then, at_end}
 use Rattle.wire.specs.Shapes.{QueryShape, ResponseShape, RequestShape, Shape, QueryShaped, ResponseShaped, RequestShaped, names_one, query_shape, response_shape, request_shape, shape_of, shape_by}
-use Rattle.wire.specs.Packets.{Query, Told, Data, Alias, Referral, NoData, NoName, Nowhere, TooLong, Response, Request, Packet, IsQuery, IsResponse, IsRequest, query_in, told_in, allowed, response_in, request_in, packet_in, judged, query_bytes, what_of, told_bytes, response_bytes, request_bytes, query_keeps, told_keeps, response_keeps, request_keeps}
+use Rattle.wire.specs.Packets.{Query, Told, Data, Alias, Referral, NoData, NoName, Nowhere, TooLong, Response, Request, Packet, IsQuery, IsResponse, IsRequest, next, query_in, told_in, allowed, response_in, request_in, packet_in, judged, query_bytes, what_of, told_bytes, response_bytes, request_bytes, query_keeps, told_keeps, response_keeps, request_keeps}
 use Rattle.wire.proofs.Cutting.{one_number, list_back, root_name}
 use Rattle.wire.proofs.Sizes.{query_rules, response_rules, referral_rules, request_rules, query_fits, response_fits, request_fits}
 
@@ -50,6 +50,7 @@ kind_named k h = cond-true (is_kind k) (Ok k) (Err BadName) h
 -- ---- by the first byte
 
 pub short_shaped : (b : ℕ) (bs : List ℕ) → length (b ∷ bs) ≤ 1200 → shape_of (b ∷ bs) ≡ shape_by b bs
+unfolding then
 short_shaped b bs h = cond-true (leb (length (b ∷ bs)) 1200) (then (cut_byte (b ∷ bs)) shape_by) None (le-leb (length (b ∷ bs)) 1200 h) ∙ ap (λ o. then o shape_by) (byte_back b bs)
 
 -- ---- queries
@@ -62,13 +63,13 @@ unfolding query_bytes query_rest
 query_first q = refl
 
 query_shaped : (q : Query) → query_keeps q ≡ true → query_shape (query_rest q) ≡ Some (record { id = q.id; apex = q.apex; kind = q.kind; name = q.name })
-unfolding query_shape query_rest
+unfolding then query_shape query_rest
 query_shaped q h =
     let k = query_rules q h in
     rw (eight_back q.id (wire q.apex ++ (q.kind ∷ wire q.name)) k.id, list_back q.apex (q.kind ∷ wire q.name), byte_back q.kind (wire q.name), last_back q.name, end_back)
 
 query_judged : (q : Query) → query_keeps q ≡ true → query_in (record { id = q.id; apex = q.apex; kind = q.kind; name = q.name }) ≡ Ok q
-unfolding query_in
+unfolding next query_in
 query_judged q h =
     let k = query_rules q h in
     rw (k.apex, k.kind, k.name, k.inside)
@@ -114,7 +115,7 @@ name_proper apex Nowhere h = root_proper
 name_proper apex TooLong h = root_proper
 
 what_back : (t : Told) (rest : List ℕ) → cut_what (what_of t ∷ rest) ≡ Some (what_of t, rest)
-unfolding cut_what cut_byte
+unfolding then cut_what cut_byte
 what_back (Data ps) rest = refl
 what_back (Alias n) rest = refl
 what_back (Referral n ps) rest = refl
@@ -163,7 +164,7 @@ shape_for : Response → ResponseShape
 shape_for r = record { id = r.id; apex = r.apex; what = what_of r.told; ttl = r.ttl; name = name_in r.told; pieces = pieces_in r.told }
 
 response_shaped : (r : Response) → response_keeps r ≡ true → response_shape (response_rest r) ≡ Some (shape_for r)
-unfolding response_shape response_rest shape_for
+unfolding then response_shape response_rest shape_for
 response_shaped r h =
     let k = response_rules r h in
     rw (
@@ -177,7 +178,7 @@ response_shaped r h =
     )
 
 response_judged : (r : Response) → response_keeps r ≡ true → response_in (shape_for r) ≡ Ok r
-unfolding response_in shape_for
+unfolding next response_in shape_for
 response_judged r h =
     let k = response_rules r h in
     rw (k.apex, name_proper r.apex r.told k.told, told_back r.apex r.told k.told, told_allowed r.apex r.told k.told)
@@ -197,13 +198,13 @@ unfolding request_bytes request_rest
 request_first r = refl
 
 request_shaped : (r : Request) → request_keeps r ≡ true → request_shape (request_rest r) ≡ Some (record { id = r.id; apex = r.apex; known = r.known })
-unfolding request_shape request_rest
+unfolding then request_shape request_rest
 request_shaped r h =
     let k = request_rules r h in
     rw (eight_back r.id (wire r.apex ++ to_be_bytes w64 r.known) k.id, list_back r.apex (to_be_bytes w64 r.known), eight_back r.known [] k.known, end_back)
 
 request_judged : (r : Request) → request_keeps r ≡ true → request_in (record { id = r.id; apex = r.apex; known = r.known }) ≡ Ok r
-unfolding request_in
+unfolding next request_in
 request_judged r h = let k = request_rules r h in rw k.apex
 
 pub request_back : (r : Request) → request_keeps r ≡ true → packet_in (request_bytes r) ≡ Ok (IsRequest r)

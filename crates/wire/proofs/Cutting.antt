@@ -151,7 +151,7 @@ unfolding proper written
 root_name = refl
 
 pub what_there : (bs : List ℕ) (o : Option ℕ) → 0 < length bs → o ≡ cond (leb 1 (get_or bs 0 0) && leb (get_or bs 0 0) 7) (Some (get_or bs 0 0)) None → cut_what bs ≡ option_map (λ n. (n, between 1 (length bs) bs)) o
-unfolding cut_what
+unfolding then cut_what
 what_there bs o h e =
     ap (λ c. then c (λ what rest. cond (leb 1 what && leb what 7) (Some (what, rest)) None)) (one_byte bs h)
     ∙ go (leb 1 (get_or bs 0 0) && leb (get_or bs 0 0) 7)
@@ -162,5 +162,5 @@ what_there bs o h e =
     go false = refl
 
 pub no_what : (bs : List ℕ) → length bs ≡ 0 → cut_what bs ≡ None
-unfolding cut_what
+unfolding then cut_what
 no_what bs h = ap (λ c. then c (λ what rest. cond (leb 1 what && leb what 7) (Some (what, rest)) None)) (no_byte bs h)

@@ -24,7 +24,7 @@ cut_list_if b bs = cond b (cut_list bs) (Some ([], bs))
 
 -- ---- one after the other
 
-abbrev pub then : {A B : Type 0} → Option (A × List ℕ) → (A → List ℕ → Option B) → Option B
+unfoldable pub then : {A B : Type 0} → Option (A × List ℕ) → (A → List ℕ → Option B) → Option B
 then None f = None
 then (Some p) f = f p.0 p.1
 

@@ -54,7 +54,7 @@ pub data Packet : Type 0 where
 
 -- ---- what a shape says
 
-abbrev pub next : {A B : Type 0} → Result A Fault → (A → Result B Fault) → Result B Fault
+unfoldable pub next : {A B : Type 0} → Result A Fault → (A → Result B Fault) → Result B Fault
 next (Ok x) f = f x
 next (Err e) f = Err e
 
