@@ -1,21 +1,18 @@
 -- What was written is read.
-use Rattle.std.proofs.Common.{◌≡◌, ℕ, ◌+◌, ◌<◌, ◌≤◌, ◌^◌, Bool, true, false, cond, ◌&&◌, eqb, leb, ltb, List, [], ◌∷◌, ◌++◌, length, Some, None, Ok, Err, Option, Result, sym, refl, ap, ◌∙◌, append_assoc, append-nil, arith, length-append}
-use Rattle.std.specs.Int.{w16, w32, w64, to_be_bytes, from_be_bytes}
-use Rattle.std.specs.Option.{option_map}
+use Rattle.std.proofs.Common.{◌≡◌, ℕ, ◌≤◌, true, leb, ltb, List, [], ◌∷◌, ◌++◌, length, Some, None, Ok, Err, sym, refl, ap, ◌∙◌, append-nil, arith}
+use Rattle.std.specs.Int.{w16, w32, w64, to_be_bytes}
 use Rattle.std.proofs.lemmas.Nat.{from_be_bytes-to_be_bytes_2, from_be_bytes-to_be_bytes_4, from_be_bytes-to_be_bytes_8}
-use Rattle.std.proofs.lemmas.Bool.{cond-true, cond-false, ltb-true, leb-true, le-leb}
-use Rattle.names.specs.declared.fault.Fault.{Fault}
-use Rattle.names.specs.declared.fault.Fault.TheVariants.{Malformed, BadName, BadData, Misplaced, Conflict}
+use Rattle.std.proofs.lemmas.Bool.{cond-true, ltb-true, le-leb}
+use Rattle.names.specs.declared.fault.Fault.TheVariants.{BadName, BadData}
 use Rattle.names.specs.Labels.{proper, written}
 use Rattle.names.specs.Names.{name_of}
-use Rattle.names.specs.Order.{within}
 use Rattle.names.specs.Wire.{wire}
 use Rattle.meaning.specs.Model.{is_kind, pieces_fit}
 use Rattle.records.specs.Numbers.{kind_of}
 use Rattle.wire.specs.Cuts.{cut_byte, cut_number, cut_list, cut_list_if, cut_what, then, at_end}
-use Rattle.wire.specs.Shapes.{QueryShape, ResponseShape, RequestShape, Shape, QueryShaped, ResponseShaped, RequestShaped, names_one, query_shape, response_shape, request_shape, shape_of, shape_by}
-use Rattle.wire.specs.Packets.{Query, Told, Data, Alias, Referral, NoData, NoName, Nowhere, TooLong, Response, Request, Packet, IsQuery, IsResponse, IsRequest, next, query_in, told_in, allowed, response_in, request_in, packet_in, judged, query_bytes, what_of, told_bytes, response_bytes, request_bytes, query_keeps, told_keeps, response_keeps, request_keeps}
-use Rattle.wire.proofs.Cutting.{one_number, list_back, root_name}
+use Rattle.wire.specs.Shapes.{ResponseShape, names_one, query_shape, response_shape, request_shape, shape_of, shape_by}
+use Rattle.wire.specs.Packets.{Query, Told, Data, Alias, Referral, NoData, NoName, Nowhere, TooLong, Response, Request, IsQuery, IsResponse, IsRequest, next, query_in, told_in, allowed, response_in, request_in, packet_in, query_bytes, what_of, told_bytes, response_bytes, request_bytes, query_keeps, told_keeps, response_keeps, request_keeps}
+use Rattle.wire.proofs.Cutting.{one_number, list_back}
 use Rattle.wire.proofs.Sizes.{query_rules, response_rules, referral_rules, request_rules, query_fits, response_fits, request_fits}
 
 -- ---- fields

@@ -1,5 +1,5 @@
 -- Writing piece by piece: what is written so far, behind what was there.
-use Rattle.std.proofs.Common.{◌≡◌, ℕ, zero, suc, ◌+◌, ◌&&◌, map, get_or, drop, ◌<◌, ◌≤◌, Bool, true, false, cond, leb, List, [], ◌∷◌, ◌++◌, length, Some, None, Option, sym, refl, ap, ◌∙◌, append_assoc, append-nil, arith, length-append}
+use Rattle.std.proofs.Common.{◌≡◌, ℕ, zero, suc, ◌+◌, ◌&&◌, map, get_or, drop, ◌<◌, ◌≤◌, Bool, true, false, leb, List, [], ◌∷◌, ◌++◌, length, Some, None, Option, sym, refl, ap, ◌∙◌, append_assoc, append-nil, arith, length-append}
 use Rattle.std.proofs.lemmas.Bool.{cond-true, cond-false, leb-false, lt-leb, leb-true, and_parts}
 use Rattle.std.proofs.lemmas.List.{drop_more, drop_all}
 use lib.ListN.{length-map}
@@ -96,3 +96,27 @@ module _ {X : Type 0} (bytes : X → List ℕ) (xs : List X) where
 pub no_pieces : wire [] ≡ 0 ∷ []
 unfolding wire wire_labels
 no_pieces = refl
+
+-- ---- a whole packet
+
+module _ (due : List ℕ) (before after : Option (List ℕ)) (empty : before ≡ Some []) (put : after ≡ joined before due) where
+  whole : after ≡ short_enough due
+  unfolding joined
+  whole = put ∙ ap (λ o. joined o due) empty
+
+  some_so : (x y : List ℕ) → Some x ≡ Some y → x ≡ y
+  some_so x y h = cc
+
+  pub packet_put : (bs : List ℕ) → Some bs ≡ after → (bs ≡ due) × (length due ≤ 1200)
+  packet_put bs h = go (leb (length due) 1200) refl
+    where
+      go : (c : Bool) → leb (length due) 1200 ≡ c → (bs ≡ due) × (length due ≤ 1200)
+      go true e = (some_so bs due (h ∙ whole ∙ cond-true (leb (length due) 1200) (Some due) None e), leb-true (length due) 1200 e)
+      go false e = let k : ◌≡◌ {A = Option (List ℕ)} (Some bs) None = h ∙ whole ∙ cond-false (leb (length due) 1200) (Some due) None e in cc
+
+  pub too_long_put : None ≡ after → 1200 < length due
+  too_long_put h = go (leb (length due) 1200) refl
+    where
+      go : (c : Bool) → leb (length due) 1200 ≡ c → 1200 < length due
+      go true e = let k : ◌≡◌ {A = Option (List ℕ)} None (Some due) = h ∙ whole ∙ cond-true (leb (length due) 1200) (Some due) None e in cc
+      go false e = leb-false (length due) 1200 e

@@ -1,11 +1,11 @@
 -- How many bytes packets take.
-use Rattle.std.proofs.Common.{◌≡◌, ℕ, ◌+◌, ◌*◌, ◌<◌, ◌≤◌, true, ◌&&◌, eqb, leb, ltb, List, [], ◌∷◌, ◌++◌, length, refl, ap, arith, length-append}
-use Rattle.std.specs.Int.{w16, w32, w64, to_be_bytes}
+use Rattle.std.proofs.Common.{◌≡◌, ℕ, ◌*◌, ◌≤◌, true, ◌&&◌, eqb, leb, ltb, List, [], ◌∷◌, ◌++◌, length, refl, arith, length-append}
+use Rattle.std.specs.Int.{w32, w64, to_be_bytes}
 use Rattle.std.proofs.lemmas.Bool.{and_parts, eqb-true, leb-true}
 use Rattle.names.specs.Labels.{proper}
 use Rattle.names.specs.Order.{within}
-use Rattle.names.specs.Wire.{wire_labels, wire}
-use Rattle.names.proofs.Proper.{limits, length_wire, length_wire_labels, weight}
+use Rattle.names.specs.Wire.{wire}
+use Rattle.names.proofs.Proper.{limits, length_wire, weight}
 use Rattle.meaning.specs.Model.{is_kind, pieces_fit}
 use Rattle.records.proofs.Weighed.{fit_wire}
 use Rattle.wire.specs.Packets.{Query, Told, Data, Alias, Referral, NoData, NoName, Nowhere, TooLong, Response, Request, few, are_addresses, query_bytes, what_of, told_bytes, response_bytes, request_bytes, query_keeps, told_keeps, response_keeps, request_keeps}

@@ -1,22 +1,21 @@
 -- Whatever is read was written so: reading, undone step by step.
-use Rattle.std.proofs.Common.{◌≡◌, ℕ, zero, suc, ◌+◌, ◌*◌, ◌<◌, ◌≤◌, ◌^◌, Bool, true, false, cond, ◌&&◌, eqb, leb, ltb, List, [], ◌∷◌, ◌++◌, length, take, drop, get_or, Some, None, Ok, Err, Option, Result, subst, sym, refl, ap, ◌∙◌, true≢false, append_assoc, append-nil, arith, length-append}
+use Rattle.std.proofs.Common.{◌≡◌, ℕ, zero, suc, ◌<◌, ◌≤◌, Bool, true, false, cond, ◌&&◌, eqb, leb, ltb, List, [], ◌∷◌, ◌++◌, length, take, drop, get_or, Some, None, Ok, Err, Option, Result, subst, sym, refl, ap, ◌∙◌, append-nil, arith}
 use Rattle.std.specs.Int.{w16, w32, w64, to_be_bytes, from_be_bytes}
-use Rattle.std.specs.Option.{option_map}
 use Rattle.std.proofs.lemmas.Nat.{be_bytes_2, be_bytes_4, be_bytes_8}
 use Rattle.std.proofs.lemmas.List.{take-append-drop, length-take-le}
 use Rattle.std.proofs.lemmas.Bool.{cond-true, cond-false, and_parts, and_from, ltb-true, leb-true, lt-ltb, eqb-true}
 use Rattle.names.specs.declared.fault.Fault.{Fault}
-use Rattle.names.specs.declared.fault.Fault.TheVariants.{Malformed, BadName, BadData, Misplaced, Conflict}
+use Rattle.names.specs.declared.fault.Fault.TheVariants.{BadName, BadData, Misplaced, Conflict}
 use Rattle.names.specs.Labels.{proper}
 use Rattle.names.specs.Names.{name_of}
 use Rattle.names.specs.Order.{within}
-use Rattle.names.specs.Wire.{wire, wire_labels, cut_labels}
+use Rattle.names.specs.Wire.{wire}
 use Rattle.names.proofs.Cutting.{cut_back}
 use Rattle.meaning.specs.Model.{is_kind, pieces_fit}
 use Rattle.records.specs.Numbers.{kind_of}
 use Rattle.wire.specs.Cuts.{cut_byte, cut_number, cut_list, cut_list_if, cut_what, then, at_end}
-use Rattle.wire.specs.Shapes.{QueryShape, ResponseShape, RequestShape, Shape, QueryShaped, ResponseShaped, RequestShaped, names_one, query_shape, response_shape, request_shape, shape_of, shape_by}
-use Rattle.wire.specs.Packets.{Query, Told, Data, Alias, Referral, NoData, NoName, Nowhere, TooLong, Response, Request, Packet, IsQuery, IsResponse, IsRequest, next, query_in, told_in, allowed, response_in, request_in, packet_in, judged, few, are_addresses, bare, placed, query_bytes, what_of, told_bytes, response_bytes, request_bytes, query_keeps, told_keeps, response_keeps, request_keeps}
+use Rattle.wire.specs.Shapes.{QueryShape, ResponseShape, RequestShape, names_one, query_shape, response_shape, request_shape}
+use Rattle.wire.specs.Packets.{Query, Told, Data, Alias, Referral, NoData, NoName, Nowhere, TooLong, Response, Request, next, query_in, told_in, allowed, response_in, request_in, few, are_addresses, placed, query_bytes, what_of, told_bytes, response_bytes, request_bytes, query_keeps, told_keeps, response_keeps, request_keeps}
 use Rattle.wire.specs.Laws.{are_bytes}
 use Rattle.wire.proofs.Copying.{same_pair}
 
@@ -196,10 +195,10 @@ query_shape_undone bs s u h =
     let e = end_undone _ d.0.1 s d.2 in
     subst (QueryRead bs) e.0 (record {
       so =
-        ap (λ r. to_be_bytes w64 a.0.0 ++ (wire b.0.0 ++ (c.0.0 ∷ r))) (sym (append-nil (wire d.0.0)) ∙ ap (λ r. wire d.0.0 ++ r) (sym e.1) ∙ m.so)
-        ∙ ap (λ r. to_be_bytes w64 a.0.0 ++ (wire b.0.0 ++ r)) k.so
-        ∙ ap (λ r. to_be_bytes w64 a.0.0 ++ r) l.so
-        ∙ n.at.so;
+          ap (λ r. to_be_bytes w64 a.0.0 ++ (wire b.0.0 ++ (c.0.0 ∷ r))) (sym (append-nil (wire d.0.0)) ∙ ap (λ r. wire d.0.0 ++ r) (sym e.1) ∙ m.so)
+          ∙ ap (λ r. to_be_bytes w64 a.0.0 ++ (wire b.0.0 ++ r)) k.so
+          ∙ ap (λ r. to_be_bytes w64 a.0.0 ++ r) l.so
+          ∙ n.at.so;
       id = n.below;
     })
 
@@ -226,9 +225,9 @@ query_undone bs s q u h k =
     let i = ltb s.id 18446744073709551616 in (
       query_written bs s q r j.4,
       ap query_keeps (sym j.4)
-      ∙ and_from (i && proper s.apex && is_kind s.kind && proper s.name) (within s.apex s.name)
-      (and_from (i && proper s.apex && is_kind s.kind) (proper s.name)
-      (and_from (i && proper s.apex) (is_kind s.kind) (and_from i (proper s.apex) r.id j.0) j.1) j.2) j.3,
+          ∙ and_from (i && proper s.apex && is_kind s.kind && proper s.name) (within s.apex s.name)
+          (and_from (i && proper s.apex && is_kind s.kind) (proper s.name)
+          (and_from (i && proper s.apex) (is_kind s.kind) (and_from i (proper s.apex) r.id j.0) j.1) j.2) j.3,
     )
 
 -- ---- responses
@@ -312,8 +311,8 @@ allowed_undone apex (Referral n ps) y s h =
     let d = and_parts (proper n) (are_addresses ps) s in (
       ok_same (Referral n ps) y c.1,
       and_from (proper n && few ps && are_addresses ps && within apex n) (ltb (length apex) (length n))
-      (and_from (proper n && few ps && are_addresses ps) (within apex n)
-      (and_from (proper n && few ps) (are_addresses ps) (and_from (proper n) (few ps) d.0 a.0) d.1) b.0) c.0,
+          (and_from (proper n && few ps && are_addresses ps) (within apex n)
+          (and_from (proper n && few ps) (are_addresses ps) (and_from (proper n) (few ps) d.0 a.0) d.1) b.0) c.0,
     )
 allowed_undone apex NoData y s h = (ok_same NoData y h, refl)
 allowed_undone apex NoName y s h = (ok_same NoName y h, refl)
@@ -357,10 +356,10 @@ response_shape_undone bs s u h =
       rest = d.0.1;
       behind = f.0.1;
       so =
-        ap (λ r. to_be_bytes w64 a.0.0 ++ (wire b.0.0 ++ (c.0.0 ∷ r))) t.at.so
-        ∙ ap (λ r. to_be_bytes w64 a.0.0 ++ (wire b.0.0 ++ r)) k.so
-        ∙ ap (λ r. to_be_bytes w64 a.0.0 ++ r) l.so
-        ∙ n.at.so;
+          ap (λ r. to_be_bytes w64 a.0.0 ++ (wire b.0.0 ++ (c.0.0 ∷ r))) t.at.so
+          ∙ ap (λ r. to_be_bytes w64 a.0.0 ++ (wire b.0.0 ++ r)) k.so
+          ∙ ap (λ r. to_be_bytes w64 a.0.0 ++ r) l.so
+          ∙ n.at.so;
       id = n.below;
       ttl = t.below;
       what = v.1;
@@ -384,12 +383,12 @@ response_undone bs s r u h j =
     let same : record { id = s.id; apex = s.apex; ttl = s.ttl; told = c.0 } ≡ r = (λ i. record { id = s.id; apex = x.1 i; ttl = s.ttl; told = f.0 i }) ∙ ok_same (record { id = s.id; apex = a.0; ttl = s.ttl; told = e.0 }) r e.2 in
     let i = ltb s.id 18446744073709551616 in (
       ap response_bytes (sym same)
-      ∙ (λ k. 2 ∷ (to_be_bytes w64 s.id ++ (wire s.apex ++ (t.what k ∷ (to_be_bytes w32 s.ttl ++ t.so k)))))
-      ∙ ap (λ z. 2 ∷ z) d.so,
+          ∙ (λ k. 2 ∷ (to_be_bytes w64 s.id ++ (wire s.apex ++ (t.what k ∷ (to_be_bytes w32 s.ttl ++ t.so k)))))
+          ∙ ap (λ z. 2 ∷ z) d.so,
       ap response_keeps (sym same)
-      ∙ and_from (i && proper s.apex && ltb s.ttl 4294967296) (told_keeps s.apex c.0)
-      (and_from (i && proper s.apex) (ltb s.ttl 4294967296) (and_from i (proper s.apex) d.id x.0) d.ttl)
-      (ap (λ z. told_keeps z c.0) x.1 ∙ f.1),
+          ∙ and_from (i && proper s.apex && ltb s.ttl 4294967296) (told_keeps s.apex c.0)
+          (and_from (i && proper s.apex) (ltb s.ttl 4294967296) (and_from i (proper s.apex) d.id x.0) d.ttl)
+          (ap (λ z. told_keeps z c.0) x.1 ∙ f.1),
     )
 
 -- ---- requests
@@ -410,10 +409,10 @@ request_undone bs s r u h j =
     let same : record { id = a.0.0; apex = b.0.0; known = c.0.0 } ≡ r = (λ i. record { id = (e.0 i).id; apex = (e.0 i).apex; known = (e.0 i).known }) ∙ (λ i. record { id = s.id; apex = x.1 i; known = s.known }) ∙ ok_same (record { id = s.id; apex = p.0; known = s.known }) r p.2 in
     let i = ltb a.0.0 18446744073709551616 in (
       ap request_bytes (sym same)
-      ∙ ap (λ z. 3 ∷ (to_be_bytes w64 a.0.0 ++ (wire b.0.0 ++ z))) (sym (append-nil (to_be_bytes w64 c.0.0)) ∙ ap (λ z. to_be_bytes w64 c.0.0 ++ z) (sym e.1) ∙ k.at.so)
-      ∙ ap (λ z. 3 ∷ (to_be_bytes w64 a.0.0 ++ z)) l.so
-      ∙ ap (λ z. 3 ∷ z) n.at.so,
+          ∙ ap (λ z. 3 ∷ (to_be_bytes w64 a.0.0 ++ (wire b.0.0 ++ z))) (sym (append-nil (to_be_bytes w64 c.0.0)) ∙ ap (λ z. to_be_bytes w64 c.0.0 ++ z) (sym e.1) ∙ k.at.so)
+          ∙ ap (λ z. 3 ∷ (to_be_bytes w64 a.0.0 ++ z)) l.so
+          ∙ ap (λ z. 3 ∷ z) n.at.so,
       ap request_keeps (sym same)
-      ∙ and_from (i && proper b.0.0) (ltb c.0.0 18446744073709551616)
-      (and_from i (proper b.0.0) n.below (ap (λ z. proper z.apex) e.0 ∙ x.0)) k.below,
+          ∙ and_from (i && proper b.0.0) (ltb c.0.0 18446744073709551616)
+          (and_from i (proper b.0.0) n.below (ap (λ z. proper z.apex) e.0 ∙ x.0)) k.below,
     )

@@ -1,5 +1,5 @@
 -- What it is to take something off the front of what is unread.
-use Rattle.std.specs.Prelude.{◌≡◌, ℕ, List, [], Some, None, Option, Result}
+use Rattle.std.specs.Prelude.{◌≡◌, ℕ, List, Some, None, Option, Result}
 use Rattle.std.specs.Borrow.{Bor}
 use Rattle.names.specs.declared.fault.Fault.{Fault}
 use Rattle.names.specs.declared.name.Name.{Name}

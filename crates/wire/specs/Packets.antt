@@ -1,19 +1,15 @@
 -- Packets: what their bytes say, or by which fault they are refused, and the bytes of each. Assumes nothing.
-use Rattle.std.specs.Prelude.{ℕ, ◌^◌, Bool, true, cond, not, ◌&&◌, List, [], ◌∷◌, ◌++◌, length, Some, None, Ok, Err, Option, Result, ◌==◌, nat_le, nat_lt}
-use Rattle.std.specs.Int.{w16, w32, w64, to_be_bytes}
+use Rattle.std.specs.Prelude.{ℕ, ◌^◌, Bool, true, cond, ◌&&◌, List, [], ◌∷◌, ◌++◌, length, Some, None, Ok, Err, Option, Result, ◌==◌, nat_le, nat_lt}
+use Rattle.std.specs.Int.{w32, w64, to_be_bytes}
 use Rattle.names.specs.declared.fault.Fault.{Fault}
-use Rattle.names.specs.declared.fault.Fault.TheVariants.{Malformed, BadName, BadData, Misplaced, Conflict, StaleSerial}
-use Rattle.names.specs.Faults.{number_of}
+use Rattle.names.specs.declared.fault.Fault.TheVariants.{Malformed, BadData, Misplaced, Conflict}
 use Rattle.names.specs.Labels.{proper}
 use Rattle.names.specs.Names.{name_of}
 use Rattle.names.specs.Order.{within}
-use Rattle.names.specs.Reading.{read_name}
 use Rattle.names.specs.Wire.{wire}
-use Rattle.meaning.specs.Model.{is_kind, is_serial, delegates, aliases, Content, Addresses, Texts, Others, AliasOf, Delegated, fits, pieces_fit, Set}
-use Rattle.meaning.specs.Transfer.{all_transferred}
+use Rattle.meaning.specs.Model.{is_kind, pieces_fit}
 use Rattle.records.specs.Numbers.{kind_of}
-use Rattle.records.specs.Sets.{set_from}
-use Rattle.wire.specs.Shapes.{QueryShape, ResponseShape, RequestShape, SetShape, Head, PartShape, Shape, QueryShaped, ResponseShaped, RequestShaped, PartShaped, shape_of}
+use Rattle.wire.specs.Shapes.{QueryShape, ResponseShape, RequestShape, Shape, QueryShaped, ResponseShaped, RequestShaped, shape_of}
 
 pub record Query : Type 0 where
   pub id : ℕ
@@ -42,15 +38,10 @@ pub record Request : Type 0 where
   pub apex : List (List ℕ)
   pub known : ℕ
 
-pub record Part : Type 0 where
-  pub head : Head
-  pub sets : List Set
-
 pub data Packet : Type 0 where
   IsQuery : (query : Query) → Packet
   IsResponse : (response : Response) → Packet
   IsRequest : (request : Request) → Packet
-  IsPart : (part : Part) → Packet
 
 -- ---- what a shape says
 
@@ -116,62 +107,6 @@ response_in s =
 unfoldable pub request_in : RequestShape → Result Request Fault
 request_in s = next (name_of s.apex) (λ apex. Ok (record { id = s.id; apex = apex; known = s.known }))
 
--- ---- what the sets of a part say
-
-abbrev pub addresses_from : (List (List ℕ) → Content) → List (List ℕ) → Result Content Fault
-addresses_from f ps = cond (are_addresses ps) (Ok (f ps)) (Err BadData)
-
-abbrev pub alias_to : Result (List (List ℕ)) Fault → Result Content Fault
-alias_to (Ok n) = Ok (AliasOf n)
-alias_to (Err f) = Err f
-
-abbrev pub all_names : List (List ℕ) → Result Content Fault
-all_names [] = Err BadData
-all_names (p ∷ ps) = next (read_name p) (λ n. all_names ps)
-
--- one name as it is written; a piece that is none is told before a wrong count
-abbrev pub alias_in : List (List ℕ) → Result Content Fault
-alias_in [] = Err BadData
-alias_in (p ∷ []) = alias_to (read_name p)
-alias_in (p ∷ q ∷ ps) = all_names (p ∷ q ∷ ps)
-
--- data in the form of their kind
-abbrev pub content_in : ℕ → List (List ℕ) → Result Content Fault
-content_in k ps =
-    cond (k == 1) (addresses_from Addresses ps)
-    (cond (k == 2) (Ok (Texts ps))
-    (cond (delegates k) (addresses_from (λ xs. Delegated (record { servers = xs })) ps)
-    (cond (aliases k) (alias_in ps) (Ok (Others ps)))))
-
-unfoldable pub set_in : SetShape → Result Set Fault
-set_in s =
-    next (name_of s.name) (λ name.
-    next (kind_of s.kind) (λ kind.
-    next (content_in kind s.pieces) (λ c. set_from name kind s.ttl c)))
-
-abbrev pub earlier : Option ℕ → Option ℕ → Bool
-earlier (Some a) (Some b) = nat_le a b
-earlier (Some a) None = true
-earlier None o = true
-
-abbrev pub lower : Fault → Fault → Fault
-lower f g = cond (earlier (number_of f) (number_of g)) f g
-
--- of all sets the lowest fault
-abbrev pub both : Result Set Fault → Result (List Set) Fault → Result (List Set) Fault
-both (Ok s) (Ok ss) = Ok (s ∷ ss)
-both (Ok s) (Err g) = Err g
-both (Err f) (Ok ss) = Err f
-both (Err f) (Err g) = Err (lower f g)
-
-unfoldable pub all_sets : List SetShape → Result (List Set) Fault
-all_sets [] = Ok []
-all_sets (s ∷ ss) = both (set_in s) (all_sets ss)
-
--- a part of a zone has the zone's serial, which is never 0
-unfoldable pub part_in : PartShape → Result Part Fault
-part_in s = next (all_sets s.sets) (λ ss. cond (is_serial s.head.serial) (Ok (record { head = s.head; sets = ss })) (Err StaleSerial))
-
 -- ---- what a packet says
 
 abbrev pub packet_as : {A : Type 0} → (A → Packet) → Result A Fault → Result Packet Fault
@@ -183,7 +118,6 @@ judged None = Err Malformed
 judged (Some (QueryShaped s)) = packet_as IsQuery (query_in s)
 judged (Some (ResponseShaped s)) = packet_as IsResponse (response_in s)
 judged (Some (RequestShaped s)) = packet_as IsRequest (request_in s)
-judged (Some (PartShaped s)) = packet_as IsPart (part_in s)
 
 -- first the shape of the whole packet, then the lowest of its other faults
 abbrev pub packet_in : List ℕ → Result Packet Fault
@@ -219,20 +153,10 @@ response_bytes r = 2 ∷ (to_be_bytes w64 r.id ++ (wire r.apex ++ (what_of r.tol
 unfoldable pub request_bytes : Request → List ℕ
 request_bytes r = 3 ∷ (to_be_bytes w64 r.id ++ (wire r.apex ++ to_be_bytes w64 r.known))
 
-abbrev pub head_bytes : Head → List ℕ
-head_bytes h =
-    to_be_bytes w64 h.id ++ (to_be_bytes w64 h.serial ++ (to_be_bytes w64 h.moment ++
-    (to_be_bytes w32 h.negative ++ (to_be_bytes w32 h.refresh ++ (to_be_bytes w32 h.expire ++
-    (to_be_bytes w16 h.part ++ to_be_bytes w16 h.of))))))
-
-unfoldable pub part_bytes : Part → List ℕ
-part_bytes p = 4 ∷ (head_bytes p.head ++ all_transferred p.sets)
-
 abbrev pub packet_bytes : Packet → List ℕ
 packet_bytes (IsQuery q) = query_bytes q
 packet_bytes (IsResponse r) = response_bytes r
 packet_bytes (IsRequest r) = request_bytes r
-packet_bytes (IsPart p) = part_bytes p
 
 -- ---- the rules that a packet keeps
 
@@ -254,32 +178,7 @@ response_keeps r = nat_lt r.id (2 ^ 64) && proper r.apex && nat_lt r.ttl (2 ^ 32
 abbrev pub request_keeps : Request → Bool
 request_keeps r = nat_lt r.id (2 ^ 64) && proper r.apex && nat_lt r.known (2 ^ 64)
 
-abbrev pub head_keeps : Head → Bool
-head_keeps h =
-    nat_lt h.id (2 ^ 64) && nat_lt h.serial (2 ^ 64) && is_serial h.serial && nat_lt h.moment (2 ^ 64)
-    && nat_lt h.negative (2 ^ 32) && nat_lt h.refresh (2 ^ 32) && nat_lt h.expire (2 ^ 32)
-    && nat_lt h.part (2 ^ 16) && nat_lt h.of (2 ^ 16)
-
-abbrev pub content_keeps : Content → Bool
-content_keeps (Addresses ps) = are_addresses ps
-content_keeps (Texts ps) = true
-content_keeps (Others ps) = true
-content_keeps (AliasOf n) = proper n
-content_keeps (Delegated d) = are_addresses d.servers
-
-abbrev pub set_keeps : Set → Bool
-set_keeps s = proper s.name && is_kind s.kind && nat_lt s.ttl (2 ^ 32) && fits s.kind s.content && content_keeps s.content
-
-abbrev pub sets_keep : List Set → Bool
-sets_keep [] = true
-sets_keep (s ∷ ss) = set_keeps s && sets_keep ss
-
--- as many sets as fit
-abbrev pub part_keeps : Part → Bool
-part_keeps p = head_keeps p.head && sets_keep p.sets && nat_le (length (part_bytes p)) 1200
-
 abbrev pub keeps : Packet → Bool
 keeps (IsQuery q) = query_keeps q
 keeps (IsResponse r) = response_keeps r
 keeps (IsRequest r) = request_keeps r
-keeps (IsPart p) = part_keeps p

@@ -49,7 +49,6 @@ pub data Shape : Type 0 where
   QueryShaped : (query : QueryShape) → Shape
   ResponseShaped : (response : ResponseShape) → Shape
   RequestShaped : (request : RequestShape) → Shape
-  PartShaped : (part : PartShape) → Shape
 
 -- ---- the four kinds, each behind its first byte
 
@@ -116,8 +115,7 @@ abbrev pub shape_by : ℕ → List ℕ → Option Shape
 shape_by n bs =
     cond (n == 1) (option_map QueryShaped (query_shape bs))
     (cond (n == 2) (option_map ResponseShaped (response_shape bs))
-    (cond (n == 3) (option_map RequestShaped (request_shape bs))
-    (cond (n == 4) (option_map PartShaped (part_shape bs)) None)))
+    (cond (n == 3) (option_map RequestShaped (request_shape bs)) None))
 
 -- a packet has at most 1,200 bytes
 abbrev pub shape_of : List ℕ → Option Shape

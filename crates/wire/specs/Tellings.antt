@@ -1,5 +1,5 @@
 -- What the code's tellings stand for.
-use Rattle.std.specs.Prelude.{ℕ, Bool, true, List, map, vec_items}
+use Rattle.std.specs.Prelude.{Bool, true, map, vec_items}
 use Rattle.names.specs.Names.{labels}
 use Rattle.cache.specs.declared.word.Referral as cached
 use Rattle.records.specs.Contents.{bytes_of}

@@ -11,6 +11,8 @@ pub mod parts;
 pub mod reading;
 pub mod writing;
 
+pub const FIRST: u8 = 1;
+
 // Its name always lies within its apex.
 #[derive(Clone, Copy)]
 pub struct QueryPacket {

@@ -13,6 +13,8 @@ pub mod parts;
 pub mod reading;
 pub mod writing;
 
+pub const FIRST: u8 = 2;
+
 // It always tells what a server of its apex can tell.
 #[derive(Drop)]
 pub struct ResponsePacket {

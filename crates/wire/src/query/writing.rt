@@ -3,10 +3,8 @@ ghost use Rattle.std.specs.Prelude.{◌≡◌};
 ghost use Rattle.wire.specs.Given.{query_of, written, joined};
 ghost use Rattle.wire.specs.Packets.{query_bytes};
 
-use super::QueryPacket;
+use super::{FIRST, QueryPacket};
 use crate::buffer::Buffer;
-
-pub const FIRST: u8 = 1;
 
 impl QueryPacket {
     pub(crate) fn put(&self, out: &mut Buffer)

@@ -4,10 +4,8 @@ ghost use Rattle.wire.specs.Given.{written, joined};
 ghost use Rattle.wire.specs.Packets.{response_bytes};
 ghost use Rattle.wire.specs.Responses.{response_of};
 
-use super::ResponsePacket;
+use super::{FIRST, ResponsePacket};
 use crate::buffer::Buffer;
-
-pub const FIRST: u8 = 2;
 
 impl ResponsePacket {
     pub(crate) fn put(&self, out: &mut Buffer)

@@ -1,11 +1,10 @@
-use Rattle.std.proofs.Common.{◌≡◌, ◌<◌, ℕ, true, List, [], ◌∷◌, ◌++◌, map, length, vec_items, Ok, Err, inl, refl, sym, ap, ◌∙◌, subst, arith, rules}
-use Rattle.std.specs.List.{between}
+use Rattle.std.proofs.Common.{◌≡◌, [], ◌∷◌, ◌++◌, map, length, vec_items, Ok, Err, inl, sym, ap, ◌∙◌, arith, rules}
 use Rattle.std.proofs.lemmas.List.{map-append}
 use Rattle.std.proofs.lemmas.Bool.{cond-true, cond-false}
 use Rattle.names.specs.declared.fault.Fault.TheVariants.{BadData}
 use Rattle.records.specs.Contents.{bytes_of}
 use Rattle.wire.specs.Packets.{are_addresses}
-use Rattle.wire.proofs.Copying.{Copying, never_empty, none_copied, one_copied, all_copied, cut_shorter, one_address, bad_address}
+use Rattle.wire.proofs.Copying.{never_empty, none_copied, one_copied, all_copied, cut_shorter, one_address, bad_address}
 use Rattle.wire.proofs.pieces.addresses.Goals as goal
 
 pub returns-in_default : goal.returns-in_default

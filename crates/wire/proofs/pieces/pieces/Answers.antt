@@ -1,7 +1,6 @@
-use Rattle.std.proofs.Common.{◌≡◌, ◌<◌, ℕ, List, [], ◌∷◌, ◌++◌, map, length, vec_items, Ok, sym, ap, ◌∙◌, subst, arith, rules}
-use Rattle.std.specs.List.{between}
+use Rattle.std.proofs.Common.{◌≡◌, [], ◌∷◌, ◌++◌, map, vec_items, Ok, sym, ap, arith, rules}
 use Rattle.std.proofs.lemmas.List.{map-append}
-use Rattle.wire.proofs.Copying.{Copying, never_empty, none_copied, one_copied, all_copied, cut_shorter}
+use Rattle.wire.proofs.Copying.{never_empty, none_copied, one_copied, all_copied, cut_shorter}
 use Rattle.wire.proofs.pieces.pieces.Goals as goal
 
 pub returns-in_default : goal.returns-in_default

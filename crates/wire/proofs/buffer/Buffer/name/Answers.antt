@@ -1,4 +1,4 @@
-use Rattle.std.proofs.Common.{◌≡◌, ◌<◌, ◌≤◌, length, sym, refl, ap, ◌∙◌, arith}
+use Rattle.std.proofs.Common.{ap, ◌∙◌, arith}
 use Rattle.names.specs.Iterating.{labels_ahead}
 use Rattle.names.specs.Labels.{proper_labels}
 use Rattle.names.specs.Names.{labels}

@@ -1,4 +1,4 @@
-use Rattle.std.proofs.Common.{◌≡◌, ◌<◌, ◌≤◌, ◌∷◌, length, vec_items, sym, ap, ◌∙◌, arith, rules}
+use Rattle.std.proofs.Common.{◌∷◌, length, vec_items, ap, ◌∙◌, arith, rules}
 use Rattle.wire.specs.Given.{written, joined}
 use Rattle.wire.proofs.Putting.{none_behind, one_behind, all_behind, short_piece}
 use Rattle.wire.proofs.buffer.Buffer.pieces.Goals as goal

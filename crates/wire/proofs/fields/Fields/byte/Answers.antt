@@ -1,4 +1,4 @@
-use Rattle.std.proofs.Common.{◌≡◌, ◌<◌, length, refl, arith}
+use Rattle.std.proofs.Common.{refl, arith}
 use Rattle.wire.proofs.Cutting.{no_byte, one_byte}
 use Rattle.wire.proofs.fields.Fields.byte.Goals as goal
 

@@ -1,6 +1,5 @@
-use Rattle.std.proofs.Common.{◌≡◌, suc, ◌+◌, ◌-◌, ◌<◌, ◌≤◌, length, get_or, Some, refl, sym, ap, ◌∙◌, arith, rules}
-use Rattle.std.specs.List.{between}
-use Rattle.wire.proofs.Cutting.{Walking, Walked, no_list, one_walked, walk_short, walked, list_front}
+use Rattle.std.proofs.Common.{◌+◌, ◌-◌, get_or, Some, refl, sym, ap, ◌∙◌, arith}
+use Rattle.wire.proofs.Cutting.{no_list, one_walked, walk_short, walked, list_front}
 use Rattle.wire.proofs.fields.Fields.list.Goals as goal
 
 pub returns-in_default : goal.returns-in_default

@@ -1,4 +1,4 @@
-use Rattle.std.proofs.Common.{◌-◌, length, get_or}
+use Rattle.std.proofs.Common.{◌-◌}
 use Rattle.wire.proofs.Cutting.{Walking}
 use Rattle.wire.proofs.fields.Fields.list.Given as goal
 

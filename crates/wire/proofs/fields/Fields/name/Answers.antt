@@ -1,4 +1,4 @@
-use Rattle.std.proofs.Common.{◌≡◌, sym, ap, ◌∙◌}
+use Rattle.std.proofs.Common.{ap, ◌∙◌}
 use Rattle.names.specs.Wire.{read_wire, name_read}
 use Rattle.wire.proofs.Cutting.{name_back}
 use Rattle.wire.proofs.fields.Fields.name.Goals as goal

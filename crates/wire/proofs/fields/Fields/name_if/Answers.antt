@@ -1,4 +1,4 @@
-use Rattle.std.proofs.Common.{◌≡◌, [], Ok, refl, sym, ap, ◌∙◌, subst}
+use Rattle.std.proofs.Common.{[], Ok, sym, ap, ◌∙◌, subst}
 use Rattle.wire.specs.Fields.{Takes, IsName}
 use Rattle.wire.proofs.Cutting.{list_there, no_list_there, root_name}
 use Rattle.wire.proofs.fields.Fields.name_if.Goals as goal

@@ -1,4 +1,4 @@
-use Rattle.std.proofs.Common.{◌<◌, ◌≤◌, length, refl, arith, rules}
+use Rattle.std.proofs.Common.{refl, rules}
 use Rattle.std.specs.Int.{w64}
 use Rattle.wire.proofs.Cutting.{no_number, one_number}
 use Rattle.wire.proofs.fields.Fields.number_8.Goals as goal

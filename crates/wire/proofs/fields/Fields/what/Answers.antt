@@ -1,6 +1,4 @@
-use Rattle.std.proofs.Common.{◌≡◌, ◌<◌, length, refl, sym, ap, ◌∙◌, arith}
-use Rattle.std.specs.Option.{option_map}
-use Rattle.wire.specs.Whats.{number_of}
+use Rattle.std.proofs.Common.{refl, arith}
 use Rattle.wire.proofs.Cutting.{what_there, no_what}
 use Rattle.wire.proofs.fields.Fields.what.Goals as goal
 

@@ -1,4 +1,3 @@
-use Rattle.std.proofs.Common.{◌≡◌}
 use Rattle.wire.specs.Packets.{query_bytes}
 use Rattle.wire.proofs.Putting.{put_more}
 use Rattle.wire.proofs.query.QueryPacket.put.Goals as goal

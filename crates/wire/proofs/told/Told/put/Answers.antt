@@ -1,4 +1,3 @@
-use Rattle.std.proofs.Common.{◌∙◌}
 use Rattle.wire.proofs.Putting.{put_more}
 use Rattle.wire.proofs.told.Told.put.Goals as goal
 
