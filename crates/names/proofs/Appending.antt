@@ -8,7 +8,7 @@ use Rattle.names.proofs.Push.{label_length}
 
 -- ---- the labels
 
-wire_push : (ls : List (List ℕ)) (l : List ℕ) → wire_labels (ls ++ l ∷ []) ≡ wire_labels ls ++ (length l ∷ l)
+pub wire_push : (ls : List (List ℕ)) (l : List ℕ) → wire_labels (ls ++ l ∷ []) ≡ wire_labels ls ++ (length l ∷ l)
 unfolding wire_labels
 wire_push [] l = ap (λ x. length l ∷ x) (append-nil l)
 wire_push (m ∷ ls) l = ap (λ x. length m ∷ (m ++ x)) (wire_push ls l) ∙ ap (λ x. length m ∷ x) (sym (append_assoc m (wire_labels ls) (length l ∷ l)))

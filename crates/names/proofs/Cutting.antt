@@ -26,7 +26,7 @@ some_so : {A : Type 0} (x y : A) → Some x ≡ Some y → x ≡ y
 some_so x y h = cc
 
 -- as many labels by one label and the others
-cut_one : (n : ℕ) (bs l after : List ℕ) → cut_label bs ≡ Some (l, after) → cut_labels (suc n) bs ≡ behind (l ∷ []) (cut_labels n after)
+pub cut_one : (n : ℕ) (bs l after : List ℕ) → cut_label bs ≡ Some (l, after) → cut_labels (suc n) bs ≡ behind (l ∷ []) (cut_labels n after)
 unfolding cut_labels
 cut_one n [] l after h = let z : ◌≡◌ {A = ℕ} 0 1 = cc in absurd (omega arith)
 cut_one n (len ∷ bs) l after h = go (leb len (length bs)) refl
@@ -40,7 +40,7 @@ cut_one n (len ∷ bs) l after h = go (leb len (length bs)) refl
         cond-true (leb len (length bs)) (behind (take len bs ∷ []) (cut_labels n (drop len bs))) None e ∙ (λ i. behind (p i ∷ []) (cut_labels n (q i)))
     go false e = let s = sym (cond-false (leb len (length bs)) (Some (take len bs, drop len bs)) None e) ∙ h in let z : ◌≡◌ {A = ℕ} 0 1 = cc in absurd (omega arith)
 
-cut_none : (n : ℕ) (bs : List ℕ) → cut_label bs ≡ None → cut_labels (suc n) bs ≡ None
+pub cut_none : (n : ℕ) (bs : List ℕ) → cut_label bs ≡ None → cut_labels (suc n) bs ≡ None
 unfolding cut_labels
 cut_none n [] h = refl
 cut_none n (len ∷ bs) h = go (leb len (length bs)) refl
@@ -143,7 +143,7 @@ read_empty (b ∷ bs) h = absurd (omega arith)
 
 -- ---- the round trip
 
-labels_back : (ls : List (List ℕ)) (rest : List ℕ) → cut_labels (length ls) (wire_labels ls ++ rest) ≡ Some (ls, rest)
+pub labels_back : (ls : List (List ℕ)) (rest : List ℕ) → cut_labels (length ls) (wire_labels ls ++ rest) ≡ Some (ls, rest)
 unfolding cut_labels wire_labels
 labels_back [] rest = refl
 labels_back (l ∷ ls) rest =
@@ -161,7 +161,7 @@ reads_wire ls rest h =
     read_first (length ls) (wire_labels ls ++ rest) (Some (ls, rest)) (labels_back ls rest) ∙ cond-true (proper ls) (Ok (ls, rest)) (Err BadName) h
 
 -- what was cut, put together again
-cut_back : (n : ℕ) (bs : List ℕ) (ls : List (List ℕ)) (rest : List ℕ) → cut_labels n bs ≡ Some (ls, rest) → (length ls ≡ n) × (wire_labels ls ++ rest ≡ bs)
+pub cut_back : (n : ℕ) (bs : List ℕ) (ls : List (List ℕ)) (rest : List ℕ) → cut_labels n bs ≡ Some (ls, rest) → (length ls ≡ n) × (wire_labels ls ++ rest ≡ bs)
 unfolding cut_labels wire_labels
 cut_back zero bs ls rest h =
     let m : ([], bs) ≡ (ls, rest) = some_so ([], bs) (ls, rest) h in

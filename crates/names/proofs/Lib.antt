@@ -16,5 +16,5 @@ mod Shown
 mod Writing
 pub mod RoundTrip
 pub mod Cutting
-mod Appending
+pub mod Appending
 mod Faults

@@ -1,2 +1,2 @@
 mod Measured
-mod Weighed
+pub mod Weighed

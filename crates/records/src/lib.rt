@@ -5,6 +5,7 @@ mod data;
 mod set;
 mod types;
 
+pub use data::limits::pieces_fit;
 pub use data::{Data, Delegation};
 pub use set::RecordSet;
 pub use types::{Address, Kind, Serial, Ttl};

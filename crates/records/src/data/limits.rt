@@ -14,7 +14,7 @@ pub const MAX_PIECE: usize = 255;
 
 pub const MAX_DATA: usize = 600;
 
-fn pieces_fit(pieces: &[Vec<u8>]) -> bool
+pub fn pieces_fit(pieces: &[Vec<u8>]) -> bool
     ensures { result ≡ pieces_fit (map vec_items pieces.now) }
 {
     if pieces.len() > MAX_PIECES {

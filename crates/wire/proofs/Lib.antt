@@ -1,0 +1,9 @@
+mod Cutting
+mod Shaping
+mod Putting
+mod Copying
+mod Telling
+mod Sizes
+mod Backs
+mod Undone
+mod Laws

@@ -1,0 +1,12 @@
+pub mod Cuts
+pub mod Shapes
+pub mod Packets
+pub mod Parts
+pub mod Laws
+pub mod Fields
+pub mod Given
+pub mod Whats
+pub mod Tellings
+pub mod Responses
+pub mod Requests
+pub mod Readings

@@ -1,0 +1,19 @@
+// Packets: bytes on the wire, read exactly or refused.
+#![tactic(auto)]
+
+mod buffer;
+mod fields;
+mod packet;
+mod pieces;
+mod query;
+mod request;
+mod response;
+mod told;
+mod what;
+
+pub use buffer::MAX_PACKET;
+pub use packet::{Packet, packet_laws};
+pub use query::QueryPacket;
+pub use request::RequestPacket;
+pub use response::ResponsePacket;
+pub use told::Told;
