@@ -6,4 +6,5 @@ mod Telling
 mod Sizes
 mod Backs
 mod Undone
+mod Naming
 mod Laws

@@ -23,14 +23,14 @@ pub record Part : Type 0 where
 abbrev pub addresses_from : (List (List ℕ) → Content) → List (List ℕ) → Result Content Fault
 addresses_from f ps = cond (are_addresses ps) (Ok (f ps)) (Err BadData)
 
--- each piece must be a name as it is written; the last one
-unfoldable pub last_name : Result (List (List ℕ)) Fault → List (List ℕ) → Result (List (List ℕ)) Fault
-last_name r [] = r
-last_name r (p ∷ ps) = next (read_name p) (λ n. last_name (Ok n) ps)
+-- each piece must be a name as it is written: the last one, or the name before all
+unfoldable pub last_name : List (List ℕ) → List (List ℕ) → Result (List (List ℕ)) Fault
+last_name n [] = Ok n
+last_name n (p ∷ ps) = next (read_name p) (λ m. last_name m ps)
 
 -- one name; a piece that is none is told before a wrong count
 abbrev pub alias_of : List (List ℕ) → Result (List (List ℕ)) Fault
-alias_of ps = next (last_name (Err BadData) ps) (λ n. cond (length ps == 1) (Ok n) (Err BadData))
+alias_of ps = next (last_name [] ps) (λ n. cond (length ps == 1) (Ok n) (Err BadData))
 
 abbrev pub alias_to : Result (List (List ℕ)) Fault → Result Content Fault
 alias_to (Ok n) = Ok (AliasOf n)

@@ -8,6 +8,7 @@ mod pieces;
 mod query;
 mod request;
 mod response;
+mod sets;
 mod told;
 mod what;
 
