@@ -7,4 +7,5 @@ mod Sizes
 mod Backs
 mod Undone
 mod Naming
+mod Partly
 mod Laws

@@ -11,3 +11,4 @@ pub mod Responses
 pub mod Requests
 pub mod Readings
 pub mod Sets
+pub mod Heads

@@ -4,6 +4,7 @@
 mod buffer;
 mod fields;
 mod packet;
+mod part;
 mod pieces;
 mod query;
 mod request;
@@ -14,6 +15,7 @@ mod what;
 
 pub use buffer::MAX_PACKET;
 pub use packet::{Packet, packet_laws};
+pub use part::{PartHead, PartPacket};
 pub use query::QueryPacket;
 pub use request::RequestPacket;
 pub use response::ResponsePacket;
