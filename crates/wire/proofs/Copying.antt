@@ -67,6 +67,17 @@ one_copied ps done rest l after c h = go c.left c.parted (ap cut_label (sym c.so
         let s = same_pair x l (wire_labels more) after (sym (cut_first x more) ∙ k) in
         record { left = more; parted = p ∙ ap (λ y. done ++ y ∷ more) s.0 ∙ sym (append_assoc done (l ∷ []) more); so = sym s.1 }
 
+-- the first of those that are left, and the others
+pub first_left : (left : List (List ℕ)) (rest l after : List ℕ) → rest ≡ wire_labels left → cut_label rest ≡ Some (l, after) → (more : List (List ℕ)) × (left ≡ l ∷ more) × (after ≡ wire_labels more)
+first_left [] rest l after e h = let z : ◌≡◌ {A = Option (List ℕ × List ℕ)} None (Some (l, after)) = sym cut_end ∙ (ap cut_label (sym e) ∙ h) in cc
+first_left (x ∷ more) rest l after e h =
+    let s = same_pair x l (wire_labels more) after (sym (cut_first x more) ∙ (ap cut_label (sym e) ∙ h)) in
+    (more, ap (λ y. y ∷ more) s.0, sym s.1)
+
+pub none_left : (left : List (List ℕ)) (rest : List ℕ) → rest ≡ wire_labels left → cut_label rest ≡ None → left ≡ []
+none_left [] rest e h = refl
+none_left (x ∷ more) rest e h = let z : ◌≡◌ {A = Option (List ℕ × List ℕ)} (Some (x, wire_labels more)) None = sym (cut_first x more) ∙ (ap cut_label (sym e) ∙ h) in cc
+
 pub all_copied : (ps done : List (List ℕ)) (rest : List ℕ) → Copying ps done rest → cut_label rest ≡ None → ps ≡ done
 all_copied ps done rest c h = go c.left c.parted (ap cut_label (sym c.so) ∙ h)
   where

@@ -10,7 +10,7 @@ use Rattle.wire.specs.Packets.{Packet, IsQuery, IsResponse, IsRequest, query_in,
 use Rattle.wire.specs.Shapes.{Shape, QueryShaped, ResponseShaped, RequestShaped, query_shape, response_shape, request_shape, shape_by}
 use Rattle.wire.proofs.Backs.{query_back, response_back, request_back}
 use Rattle.wire.proofs.Shaping.{no_kind}
-use Rattle.wire.proofs.Sizes.{query_fits, response_fits, request_fits}
+use Rattle.wire.proofs.Sizes.{query_fits, response_fits, request_fits, set_fits}
 use Rattle.wire.proofs.Undone.{ok_same, query_undone, response_undone, request_undone}
 
 reads_written : (p : Packet) → keeps p ≡ true → packet_in (packet_bytes p) ≡ Ok p
@@ -60,4 +60,4 @@ written_read bs p u h = go (leb (length bs) 1200) refl
         cc
 
 pub packet_laws : PacketLaws
-packet_laws = record { reads_written = reads_written; written_read = written_read; query_fits = query_fits; response_fits = response_fits; request_fits = request_fits }
+packet_laws = record { reads_written = reads_written; written_read = written_read; query_fits = query_fits; response_fits = response_fits; request_fits = request_fits; set_fits = set_fits }

@@ -6,4 +6,6 @@ mod Telling
 mod Sizes
 mod Backs
 mod Undone
+mod Naming
+mod Partly
 mod Laws

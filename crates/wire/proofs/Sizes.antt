@@ -1,13 +1,21 @@
 -- How many bytes packets take.
-use Rattle.std.proofs.Common.{◌≡◌, ℕ, ◌*◌, ◌≤◌, true, ◌&&◌, eqb, leb, ltb, List, [], ◌∷◌, ◌++◌, length, refl, arith, length-append}
+use Rattle.std.proofs.Common.{◌≡◌, ℕ, ◌*◌, ◌≤◌, true, ◌&&◌, eqb, leb, ltb, List, [], ◌∷◌, ◌++◌, length, refl, ap, arith, length-append}
 use Rattle.std.specs.Int.{w32, w64, to_be_bytes}
 use Rattle.std.proofs.lemmas.Bool.{and_parts, eqb-true, leb-true}
 use Rattle.names.specs.Labels.{proper}
 use Rattle.names.specs.Order.{within}
-use Rattle.names.specs.Wire.{wire}
+use Rattle.names.specs.Wire.{wire_labels, wire}
 use Rattle.names.proofs.Proper.{limits, length_wire, weight}
 use Rattle.meaning.specs.Model.{is_kind, pieces_fit}
 use Rattle.records.proofs.Weighed.{fit_wire}
+use Rattle.names.specs.Labels.{written}
+use Rattle.names.proofs.Proper.{length_wire_labels, length_written_root, length_written_all}
+use Rattle.meaning.specs.Model.{delegates, plain, fits, Content, Addresses, Texts, Others, AliasOf, Delegated, Set}
+use Rattle.meaning.specs.Transfer.{pieces, transferred, all_transferred}
+use Rattle.meaning.proofs.Carried.{length_transferred}
+use Rattle.records.proofs.Weighed.{one_wire}
+use Rattle.wire.specs.Parts.{head_bytes, part_bytes, content_keeps, set_keeps}
+use Rattle.wire.specs.Shapes.{Head}
 use Rattle.wire.specs.Packets.{Query, Told, Data, Alias, Referral, NoData, NoName, Nowhere, TooLong, Response, Request, few, are_addresses, query_bytes, what_of, told_bytes, response_bytes, request_bytes, query_keeps, told_keeps, response_keeps, request_keeps}
 
 pub name_short : (ls : List (List ℕ)) → proper ls ≡ true → length (wire ls) ≤ 257
@@ -142,4 +150,53 @@ request_fits r h =
     let k = request_rules r h in
     let a = name_short r.apex k.apex in
     let c = length-append (wire r.apex) (to_be_bytes w64 r.known) in
+    omega arith
+
+-- ---- a set in a part
+
+alias_short : (n : List (List ℕ)) → proper n ≡ true → length (written n) ≤ 255
+alias_short [] h = let e = length_written_root [] refl in omega arith
+alias_short (l ∷ ls) h =
+    let w = (limits (l ∷ ls) h).short in
+    let e = length_written_all (l ∷ ls) (omega arith) in
+    omega arith
+
+few_addresses : (ps : List (List ℕ)) → length ps ≤ 16 → are_addresses ps ≡ true → length (wire_labels ps) ≤ 616
+few_addresses ps few h =
+    let w = length_wire_labels ps in
+    let a = addresses_weigh ps h in
+    omega arith
+
+content_short : (k : ℕ) (c : Content) → fits k c ≡ true → content_keeps c ≡ true → length (wire_labels (pieces c)) ≤ 616
+content_short k (Addresses ps) h s = few_addresses ps (leb-true (length ps) 16 (and_parts (eqb k 1) (leb (length ps) 16) h).1) s
+content_short k (Texts ps) h s = fit_wire ps (and_parts (eqb k 2) (pieces_fit ps) h).1
+content_short k (Others ps) h s = fit_wire ps (and_parts (plain k) (pieces_fit ps) h).1
+content_short k (AliasOf n) h s =
+    let a = alias_short n s in
+    let b = one_wire (written n) in
+    omega arith
+content_short k (Delegated d) h s =
+    few_addresses d.servers (leb-true (length d.servers) 16 (and_parts (delegates k && leb 1 (length d.servers)) (leb (length d.servers) 16) h).1) s
+
+one_transferred : (s : Set) → all_transferred (s ∷ []) ≡ transferred s ++ []
+unfolding all_transferred
+one_transferred s = refl
+
+head_long : (h : Head) → length (head_bytes h) ≡ 40
+head_long h = refl
+
+pub set_fits : (h : Head) (s : Set) → set_keeps s ≡ true → length (part_bytes (record { head = h; sets = s ∷ [] })) ≤ 1200
+unfolding part_bytes
+set_fits h s k =
+    let a = and_parts (proper s.name && is_kind s.kind && ltb s.ttl 4294967296 && fits s.kind s.content) (content_keeps s.content) k in
+    let b = and_parts (proper s.name && is_kind s.kind && ltb s.ttl 4294967296) (fits s.kind s.content) a.0 in
+    let c = and_parts (proper s.name && is_kind s.kind) (ltb s.ttl 4294967296) b.0 in
+    let d = and_parts (proper s.name) (is_kind s.kind) c.0 in
+    let n = name_short s.name d.0 in
+    let p = content_short s.kind s.content b.1 a.1 in
+    let t = length_transferred s in
+    let e = ap length (one_transferred s) in
+    let f = length-append (transferred s) [] in
+    let g = length-append (head_bytes h) (all_transferred (s ∷ [])) in
+    let l = head_long h in
     omega arith

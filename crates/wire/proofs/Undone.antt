@@ -91,7 +91,7 @@ pub record Number (bs : List ℕ) (n most : ℕ) (front rest : List ℕ) : Type 
   pub at : Undone bs front rest
   pub below : ltb n most ≡ true
 
-cut_undone : (k : ℕ) (bs : List ℕ) (f : List ℕ → ℕ) (n : ℕ) (rest : List ℕ) → cond {A = Option (ℕ × List ℕ)} (leb k (length bs)) (Some (f (take k bs), drop k bs)) None ≡ Some (n, rest) → (k ≤ length bs) × (f (take k bs) ≡ n) × (drop k bs ≡ rest)
+pub cut_undone : (k : ℕ) (bs : List ℕ) (f : List ℕ → ℕ) (n : ℕ) (rest : List ℕ) → cond {A = Option (ℕ × List ℕ)} (leb k (length bs)) (Some (f (take k bs), drop k bs)) None ≡ Some (n, rest) → (k ≤ length bs) × (f (take k bs) ≡ n) × (drop k bs ≡ rest)
 cut_undone k bs f n rest h = go (leb k (length bs)) refl
   where
     go : (c : Bool) → leb k (length bs) ≡ c → (k ≤ length bs) × (f (take k bs) ≡ n) × (drop k bs ≡ rest)

@@ -10,3 +10,5 @@ pub mod Tellings
 pub mod Responses
 pub mod Requests
 pub mod Readings
+pub mod Sets
+pub mod Heads

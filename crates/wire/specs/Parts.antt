@@ -11,7 +11,7 @@ use Rattle.meaning.specs.Model.{is_kind, is_serial, delegates, aliases, Content,
 use Rattle.meaning.specs.Transfer.{all_transferred}
 use Rattle.records.specs.Numbers.{kind_of}
 use Rattle.records.specs.Sets.{set_from}
-use Rattle.wire.specs.Shapes.{SetShape, Head, PartShape}
+use Rattle.wire.specs.Shapes.{SetShape, Times, Head, PartShape}
 use Rattle.wire.specs.Packets.{next, are_addresses}
 
 pub record Part : Type 0 where
@@ -23,14 +23,14 @@ pub record Part : Type 0 where
 abbrev pub addresses_from : (List (List ℕ) → Content) → List (List ℕ) → Result Content Fault
 addresses_from f ps = cond (are_addresses ps) (Ok (f ps)) (Err BadData)
 
--- each piece must be a name as it is written; the last one
-unfoldable pub last_name : Result (List (List ℕ)) Fault → List (List ℕ) → Result (List (List ℕ)) Fault
-last_name r [] = r
-last_name r (p ∷ ps) = next (read_name p) (λ n. last_name (Ok n) ps)
+-- each piece must be a name as it is written: the last one, or the name before all
+unfoldable pub last_name : List (List ℕ) → List (List ℕ) → Result (List (List ℕ)) Fault
+last_name n [] = Ok n
+last_name n (p ∷ ps) = next (read_name p) (λ m. last_name m ps)
 
 -- one name; a piece that is none is told before a wrong count
 abbrev pub alias_of : List (List ℕ) → Result (List (List ℕ)) Fault
-alias_of ps = next (last_name (Err BadData) ps) (λ n. cond (length ps == 1) (Ok n) (Err BadData))
+alias_of ps = next (last_name [] ps) (λ n. cond (length ps == 1) (Ok n) (Err BadData))
 
 abbrev pub alias_to : Result (List (List ℕ)) Fault → Result Content Fault
 alias_to (Ok n) = Ok (AliasOf n)
@@ -78,22 +78,26 @@ part_in s = next (all_sets s.sets) (λ ss. cond (is_serial s.head.serial) (Ok (r
 
 -- ---- bytes
 
+abbrev pub times_bytes : Times → List ℕ
+times_bytes t = to_be_bytes w32 t.negative ++ (to_be_bytes w32 t.refresh ++ to_be_bytes w32 t.expire)
+
 abbrev pub head_bytes : Head → List ℕ
 head_bytes h =
     to_be_bytes w64 h.id ++ (to_be_bytes w64 h.serial ++ (to_be_bytes w64 h.moment ++
-    (to_be_bytes w32 h.negative ++ (to_be_bytes w32 h.refresh ++ (to_be_bytes w32 h.expire ++
-    (to_be_bytes w16 h.part ++ to_be_bytes w16 h.of))))))
+    (times_bytes h.times ++ (to_be_bytes w16 h.part ++ to_be_bytes w16 h.of))))
 
 unfoldable pub part_bytes : Part → List ℕ
 part_bytes p = 4 ∷ (head_bytes p.head ++ all_transferred p.sets)
 
 -- ---- rules
 
+abbrev pub times_keep : Times → Bool
+times_keep t = nat_lt t.negative (2 ^ 32) && nat_lt t.refresh (2 ^ 32) && nat_lt t.expire (2 ^ 32)
+
 abbrev pub head_keeps : Head → Bool
 head_keeps h =
     nat_lt h.id (2 ^ 64) && nat_lt h.serial (2 ^ 64) && is_serial h.serial && nat_lt h.moment (2 ^ 64)
-    && nat_lt h.negative (2 ^ 32) && nat_lt h.refresh (2 ^ 32) && nat_lt h.expire (2 ^ 32)
-    && nat_lt h.part (2 ^ 16) && nat_lt h.of (2 ^ 16)
+    && times_keep h.times && nat_lt h.part (2 ^ 16) && nat_lt h.of (2 ^ 16)
 
 abbrev pub content_keeps : Content → Bool
 content_keeps (Addresses ps) = are_addresses ps

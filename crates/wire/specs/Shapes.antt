@@ -30,14 +30,17 @@ pub record SetShape : Type 0 where
   pub ttl : ℕ
   pub pieces : List (List ℕ)
 
+pub record Times : Type 0 where
+  pub negative : ℕ
+  pub refresh : ℕ
+  pub expire : ℕ
+
 -- what stands before the sets of a part
 pub record Head : Type 0 where
   pub id : ℕ
   pub serial : ℕ
   pub moment : ℕ
-  pub negative : ℕ
-  pub refresh : ℕ
-  pub expire : ℕ
+  pub times : Times
   pub part : ℕ
   pub of : ℕ
 
@@ -94,17 +97,21 @@ sets_upto (suc n) (b ∷ bs) = then (cut_set (b ∷ bs)) (λ s rest. option_map 
 abbrev pub sets_in : List ℕ → Option (List SetShape)
 sets_in bs = sets_upto (length bs) bs
 
+unfoldable pub cut_times : List ℕ → Option (Times × List ℕ)
+cut_times bs =
+    then (cut_number w32 bs) (λ negative r1.
+    then (cut_number w32 r1) (λ refresh r2.
+    then (cut_number w32 r2) (λ expire r3. Some (record { negative = negative; refresh = refresh; expire = expire }, r3))))
+
 unfoldable pub cut_head : List ℕ → Option (Head × List ℕ)
 cut_head bs =
     then (cut_number w64 bs) (λ id r1.
     then (cut_number w64 r1) (λ serial r2.
     then (cut_number w64 r2) (λ moment r3.
-    then (cut_number w32 r3) (λ negative r4.
-    then (cut_number w32 r4) (λ refresh r5.
-    then (cut_number w32 r5) (λ expire r6.
-    then (cut_number w16 r6) (λ part r7.
-    then (cut_number w16 r7) (λ of r8.
-    Some (record { id = id; serial = serial; moment = moment; negative = negative; refresh = refresh; expire = expire; part = part; of = of }, r8)))))))))
+    then (cut_times r3) (λ times r4.
+    then (cut_number w16 r4) (λ part r5.
+    then (cut_number w16 r5) (λ of r6.
+    Some (record { id = id; serial = serial; moment = moment; times = times; part = part; of = of }, r6)))))))
 
 unfoldable pub part_shape : List ℕ → Option PartShape
 part_shape bs = then (cut_head bs) (λ head rest. option_map (λ ss. record { head = head; sets = ss }) (sets_in rest))
