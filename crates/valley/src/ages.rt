@@ -1,5 +1,5 @@
 // How old the words are that askers remember.
-ghost use Rattle.std.specs.Prelude.{◌≡◌, ◌≢◌, ℕ, ◌-◌, Some, OnOk, nat_eq};
+ghost use Rattle.std.specs.Prelude.{◌≡◌, ◌≢◌, ℕ, ◌-◌, Some, None, OnOk, nat_eq};
 ghost use Rattle.std.specs.Option.{option_map};
 ghost use Rattle.std.specs.HashMap.{get};
 
@@ -15,7 +15,9 @@ pub struct Ages {
 }
 
 impl Ages {
-    pub fn new(heap: Global) -> Ages {
+    pub fn new(heap: Global) -> Ages
+        ensures { (n : ℕ) → get nat_eq result.moments n ≡ None }
+    {
         Ages {
             moments: HashMap::new(heap),
         }

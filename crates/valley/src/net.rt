@@ -1,7 +1,11 @@
 // Packets, numbered from 1 in the order in which they were sent. A packet stays, and may be brought again.
-ghost use Rattle.std.specs.Prelude.{◌≡◌, ℕ, ◌+◌, [], ◌∷◌, ◌++◌, length, IfOk};
+ghost use Rattle.std.specs.Prelude.{◌≡◌, ℕ, ◌+◌, [], ◌∷◌, ◌++◌, length, IfOk, MatchResult};
 ghost use Rattle.std.specs.List.{slice_get};
 ghost use Rattle.std.specs.Option.{option_map};
+ghost use Rattle.std.specs.Int.{from_be_bytes, w64};
+ghost use Rattle.names.specs.declared.fault.Fault.TheVariants.{NoMemory};
+ghost use Rattle.resolver.specs.Hears.{response_of};
+ghost use Rattle.valley.specs.Packets.{telling_of, packet_of};
 
 use cache::{Moment, QueryId, Word};
 use names::{Fault, Name};
@@ -40,13 +44,17 @@ pub struct Net {
 
 impl Asked {
     // The number of the server that is asked.
-    pub fn server(&self) -> u64 {
+    pub fn server(&self) -> u64
+        ensures { result ≡ from_be_bytes w64 self.now.query.server.0 }
+    {
         u64::from_be_bytes(self.query.server.0)
     }
 }
 
 impl Told {
-    fn copied(&self, heap: Global) -> Result<Told, Fault> {
+    fn copied(&self, heap: Global) -> Result<Told, Fault>
+        ensures { MatchResult result (λ t. telling_of t ≡ telling_of self.now) (λ f. f ≡ NoMemory) }
+    {
         let word = self.word.copied(heap)?;
         Ok(Told {
             asker: self.asker,
@@ -59,7 +67,9 @@ impl Told {
     }
 
     // As the asker hears it.
-    pub fn response(self) -> Response {
+    pub fn response(self) -> Response
+        ensures { response_of result ≡ (telling_of self).response }
+    {
         Response {
             id: self.id,
             apex: self.apex,
@@ -69,7 +79,9 @@ impl Told {
 }
 
 impl Packet {
-    pub fn copied(&self, heap: Global) -> Result<Packet, Fault> {
+    pub fn copied(&self, heap: Global) -> Result<Packet, Fault>
+        ensures { MatchResult result (λ p. packet_of p ≡ packet_of self.now) (λ f. f ≡ NoMemory) }
+    {
         Ok(match self {
             Packet::Query(asked) => Packet::Query(*asked),
             Packet::Response(told) => Packet::Response(told.copied(heap)?),
@@ -78,7 +90,9 @@ impl Packet {
 }
 
 impl Net {
-    pub fn new(heap: Global) -> Net {
+    pub fn new(heap: Global) -> Net
+        ensures { result.packets.items ≡ [] }
+    {
         Net {
             packets: Vec::new(heap),
         }

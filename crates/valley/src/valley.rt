@@ -1,5 +1,8 @@
 // Owners, servers, askers and the net, by one clock.
 ghost use Rattle.std.specs.Prelude.{◌≡◌, ◌+◌, if◌then◌else◌, is_some, IfOk};
+ghost use Rattle.protocol.specs.World.{current};
+ghost use Rattle.valley.specs.Owning.{published_by};
+ghost use Rattle.valley.specs.Packets.{Renews};
 
 use crate::ages::Ages;
 use crate::clock::Clock;
@@ -227,7 +230,9 @@ impl Valley {
     }
 
     // The zone that a text means, in the place of the one that its owner says now.
-    fn zone_in(&self, heap: Global, text: &[u8]) -> Result<Zone, Refusal> {
+    fn zone_in(&self, heap: Global, text: &[u8]) -> Result<Zone, Refusal>
+        ensures { Renews (λ a. current a (published_by self.now.owners)) text.now result }
+    {
         let apex = apex_of(heap, text)?;
         load(heap, self.owners.current(&apex), text)
     }
