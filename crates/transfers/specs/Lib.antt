@@ -1,0 +1,3 @@
+pub mod Splitting
+pub mod Joining
+pub mod TransferLaws
