@@ -3,9 +3,12 @@ mod Shaping
 mod Putting
 mod Copying
 mod Telling
+mod Texting
 mod Sizes
 mod Backs
 mod Undone
 mod Naming
 mod Partly
+pub mod Keeping
+mod Sending
 mod Laws
