@@ -11,4 +11,6 @@ mod Naming
 mod Partly
 pub mod Keeping
 mod Sending
+mod PartBacks
+mod PartUndone
 mod Laws
