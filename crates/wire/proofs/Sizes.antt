@@ -14,9 +14,9 @@ use Rattle.meaning.specs.Model.{delegates, plain, fits, Content, Addresses, Text
 use Rattle.meaning.specs.Transfer.{pieces, transferred, all_transferred}
 use Rattle.meaning.proofs.Carried.{length_transferred}
 use Rattle.records.proofs.Weighed.{one_wire}
-use Rattle.wire.specs.Parts.{head_bytes, part_bytes, content_keeps, set_keeps}
+use Rattle.wire.specs.Parts.{head_bytes, part_bytes, content_keeps, set_keeps, are_addresses}
 use Rattle.wire.specs.Shapes.{Head}
-use Rattle.wire.specs.Packets.{Query, Told, Data, Alias, Referral, NoData, NoName, Nowhere, TooLong, Response, Request, few, are_addresses, query_bytes, what_of, told_bytes, response_bytes, request_bytes, query_keeps, told_keeps, response_keeps, request_keeps}
+use Rattle.wire.specs.Packets.{Query, Told, Data, Alias, Referral, NoData, NoName, Nowhere, TooLong, Response, Request, few, query_bytes, what_of, told_bytes, response_bytes, request_bytes, query_keeps, told_keeps, response_keeps, request_keeps}
 
 pub name_short : (ls : List (List ℕ)) → proper ls ≡ true → length (wire ls) ≤ 257
 name_short ls h =
