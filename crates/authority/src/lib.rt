@@ -1,8 +1,10 @@
-// What a server says of its zone.
+// What a server says of its zone, and the packet by which it answers.
 #![tactic(auto)]
 
+mod answering;
 mod telling;
 
+pub use answering::answer;
 pub use telling::tell;
 
 #[cfg(test)]
