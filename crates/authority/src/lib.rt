@@ -43,7 +43,7 @@ mod tests {
             b"help.upperton",
             Kind::ALIAS,
             600,
-            Data::Alias(other),
+            Data::Alias(Box::new(heap, other)?),
         )?;
         let servers = vec![in heap; Address([0, 0, 0, 0, 0, 0, 0, 2])]?;
         let to = Data::Delegation(Delegation { servers });

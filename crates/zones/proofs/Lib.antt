@@ -8,5 +8,5 @@ mod Narrow
 mod Insert
 mod OneMore
 mod Spoken
-mod Standing
+mod Clashing
 mod Added
