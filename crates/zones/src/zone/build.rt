@@ -59,7 +59,7 @@ impl Zone {
     }
 
     // The lowest fault of a set that may not come into the zone.
-    fn check(&self, set: &RecordSet) -> Result<(), Fault>
+    pub fn admits(&self, set: &RecordSet) -> Result<(), Fault>
         ensures { MatchResult result (λ _. added (zone_of self.now).apex (zone_of self.now).sets (set_of set.now) ≡ Ok (insert_set (set_of set.now) (zone_of self.now).sets)) (λ f. added (zone_of self.now).apex (zone_of self.now).sets (set_of set.now) ≡ Err f) }
     {
         if !set.name().is_within(self.sets.apex()) {
@@ -93,7 +93,7 @@ impl Zone {
     pub fn insert(&mut self, set: RecordSet) -> Result<(), Fault>
         ensures { Inserts (added (zone_of self.old).apex (zone_of self.old).sets (set_of set)) (zone_of self.old) result (zone_of self.new) }
     {
-        self.check(&set)?;
+        self.admits(&set)?;
         let cut = self.new_cut(&set);
         let len = set.transfer_len();
         // Room first, so that nothing can fail once the set is in.
