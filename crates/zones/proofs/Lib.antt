@@ -5,7 +5,7 @@ mod Beside
 mod Canonical
 mod Topmost
 mod Narrow
-mod Insert
+pub mod Insert
 mod OneMore
 mod Spoken
 mod Clashing

@@ -77,6 +77,14 @@ impl Zone {
         Ok(at)
     }
 
+    // Why a set may not come into the zone, by its lowest fault.
+    pub fn admits(&self, set: &RecordSet) -> Result<(), Fault>
+        ensures { MatchResult result (λ _. added (zone_of self.now).apex (zone_of self.now).sets (set_of set.now) ≡ Ok (insert_set (set_of set.now) (zone_of self.now).sets)) (λ f. added (zone_of self.now).apex (zone_of self.now).sets (set_of set.now) ≡ Err f) }
+    {
+        self.place_of(set)?;
+        Ok(())
+    }
+
     // One set more; a refusal leaves the zone as it was.
     pub fn insert(&mut self, set: RecordSet) -> Result<(), Fault>
         ensures { Inserts (added (zone_of self.old).apex (zone_of self.old).sets (set_of set)) (zone_of self.old) result (zone_of self.new) }
