@@ -8,6 +8,7 @@ use super::{FIRST, ResponsePacket};
 use crate::buffer::Buffer;
 
 impl ResponsePacket {
+    #[tactic(auto, using(crate::proofs::Putting::joined_more), unfolding(crate::specs::Packets::response_bytes))]
     pub(crate) fn put(&self, out: &mut Buffer)
         ensures { written out.new ≡ joined (written out.old) (response_bytes (response_of self.now)) }
     {
