@@ -75,6 +75,7 @@ impl Buffer {
     }
 
     // A piece behind its length.
+    #[tactic(auto, using(crate::proofs::Putting::joined_more))]
     pub fn piece(&mut self, piece: &[u8])
         requires { length piece.now < 256 }
         ensures { written self.new ≡ joined (written self.old) (length piece.now ∷ piece.now) }

@@ -53,6 +53,7 @@ fn put_servers(kind: Kind, content: &Data, out: &mut Buffer)
     }
 }
 
+#[tactic(auto, using(crate::proofs::Putting::joined_more))]
 fn put_told(reply: &Reply, out: &mut Buffer)
     ensures put { written out.new ≡ joined (written out.old) (told_bytes (told_for (said_by (speaker_of reply.now)))) }
     ensures short { length (told_bytes (told_for (said_by (speaker_of reply.now)))) ≤ 617 }

@@ -35,6 +35,7 @@ fn fits(kind: Kind, said: &Said) -> bool
     }
 }
 
+#[tactic(auto, using(crate::proofs::Putting::joined_more))]
 fn put_told(kind: Kind, said: &Said, out: &mut Buffer)
     requires { said_fits kind.number (said_of said.now) ≡ true }
     ensures put { written out.new ≡ joined (written out.old) (told_bytes (told_for (said_of said.now))) }

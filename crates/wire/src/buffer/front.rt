@@ -13,6 +13,7 @@ use names::Name;
 use records::Ttl;
 
 impl Buffer {
+    #[tactic(auto, using(crate::proofs::Putting::joined_more))]
     pub fn front(&mut self, id: QueryId, apex: &Name, what: What, ttl: Ttl)
         ensures put { written self.new ≡ joined (written self.old) (front_bytes id.0 (labels apex.now) (number_of what) ttl.0) }
         ensures short { length (front_bytes id.0 (labels apex.now) (number_of what) ttl.0) ≤ 271 }

@@ -32,6 +32,7 @@ impl Buffer {
     }
 
     // An alias's one piece is its target as it is written.
+    #[tactic(auto, using(crate::proofs::Putting::joined_more, crate::proofs::Putting::one_piece))]
     fn target(&mut self, name: &Name)
         ensures { written self.new ≡ joined (written self.old) (wire (text (labels name.now) ∷ [])) }
     {
@@ -54,6 +55,7 @@ impl Buffer {
         }
     }
 
+    #[tactic(auto, using(crate::proofs::Putting::joined_more), unfolding(names::specs::Wire::wire, meaning::specs::Transfer::transferred))]
     pub fn set(&mut self, set: &RecordSet)
         ensures put { written self.new ≡ joined (written self.old) (transferred (set_of set.now)) }
         ensures kept { set_keeps (set_of set.now) ≡ true }

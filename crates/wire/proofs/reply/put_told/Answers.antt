@@ -12,7 +12,6 @@ use Rattle.wire.specs.Packets.{told_bytes}
 use Rattle.wire.specs.Parts.{content_keeps}
 use Rattle.wire.specs.Replies.{told_for}
 use Rattle.wire.proofs.Front.{data_short}
-use Rattle.wire.proofs.Putting.{put_more}
 use Rattle.wire.proofs.Sizes.{name_short, none_short}
 use Rattle.wire.proofs.reply.put_told.Goals as goal
 
@@ -20,9 +19,6 @@ abbrev told_len : Reply → ℕ
 told_len r = length (told_bytes (told_for (said_by (speaker_of r))))
 
 -- ---- data
-
-pub returns-in-Data-clause-put : goal.returns-in-Data-clause-put
-returns-in-Data-clause-put c = rw c.in-Data.is (c.data-in-Data.ensures.put ∙ ap (λ x. joined (written c.args.out.now) (wire (pieces x))) c.data.ensures)
 
 pub returns-in-Data-clause-short : goal.returns-in-Data-clause-short
 returns-in-Data-clause-short c =
@@ -32,11 +28,6 @@ returns-in-Data-clause-short c =
     omega arith
 
 -- ---- an alias
-
-pub returns-in-Alias-clause-put : goal.returns-in-Alias-clause-put
-returns-in-Alias-clause-put c =
-    let target = c.put_target.ensures.put ∙ ap (λ x. joined (written c.args.out.now) (wire (target_of x))) c.data-in-Alias.ensures in
-    rw c.in-Alias.is (put_more _ _ _ _ _ target c.no_pieces.ensures)
 
 pub returns-in-Alias-clause-short : goal.returns-in-Alias-clause-short
 returns-in-Alias-clause-short c =
@@ -49,12 +40,6 @@ returns-in-Alias-clause-short c =
     omega arith
 
 -- ---- a referral
-
-pub returns-in-Referral-clause-put : goal.returns-in-Referral-clause-put
-returns-in-Referral-clause-put c =
-    let name = c.name-in-Referral.ensures ∙ ap (λ ls. joined (written c.args.out.now) (wire ls)) c.name.ensures in
-    let servers = c.put_servers.ensures.put ∙ ap (λ x. joined (written c.name-in-Referral.new.self) (wire (delegation_of x).servers)) c.data-in-Referral.ensures in
-    rw c.in-Referral.is (put_more _ _ _ _ _ name servers)
 
 pub returns-in-Referral-clause-short : goal.returns-in-Referral-clause-short
 returns-in-Referral-clause-short c =

@@ -10,7 +10,6 @@ use Rattle.wire.specs.Packets.{told_bytes}
 use Rattle.wire.specs.Parts.{are_addresses}
 use Rattle.wire.specs.Replies.{told_for, said_fits}
 use Rattle.wire.proofs.Front.{data_short}
-use Rattle.wire.proofs.Putting.{put_more}
 use Rattle.wire.proofs.Sizes.{name_short, none_short, addresses_short}
 use Rattle.wire.proofs.word.put_told.Goals as goal
 
@@ -25,9 +24,6 @@ returns-in-Data-clause-short c =
     let e = ap told_len c.in-Data.is in
     omega arith
 
-pub returns-in-Alias-clause-put : goal.returns-in-Alias-clause-put
-returns-in-Alias-clause-put c = rw c.in-Alias.is (put_more _ _ _ _ _ c.name.ensures c.no_pieces.ensures)
-
 pub returns-in-Alias-clause-short : goal.returns-in-Alias-clause-short
 returns-in-Alias-clause-short c =
     let to = c.in-Alias.to in
@@ -36,9 +32,6 @@ returns-in-Alias-clause-short c =
     let n = none_short in
     let e = ap told_len c.in-Alias.is in
     omega arith
-
-pub returns-in-Referral-clause-put : goal.returns-in-Referral-clause-put
-returns-in-Referral-clause-put c = rw c.in-Referral.is (put_more _ _ _ _ _ c.name-in-Referral.ensures (rw c.as_slice.ensures.value at c.addresses.ensures.put))
 
 pub returns-in-Referral-clause-short : goal.returns-in-Referral-clause-short
 returns-in-Referral-clause-short c =
