@@ -9,7 +9,8 @@ use Rattle.wire.proofs.reply.put_target.Goals as goal
 
 pub returns-in-Alias-clause-short : goal.returns-in-Alias-clause-short
 returns-in-Alias-clause-short c =
-    let n = name_short (labels c.in-Alias.name) (labels_proper c.in-Alias.name) in
+    let to = c.in-Alias.name.value in
+    let n = name_short (labels to) (labels_proper to) in
     let e = ap (λ d. length (wire (target_of (content_of d)))) c.in-Alias.is in
     omega arith
 
