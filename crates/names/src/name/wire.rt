@@ -3,7 +3,7 @@ ghost use Rattle.std.specs.Prelude.{◌≡◌, ◌<◌, ◌≤◌, ◌&&◌, [],
 ghost use Rattle.std.specs.Option.{option_map};
 ghost use Rattle.names.specs.declared.fault.Fault.TheVariants.{NoMemory};
 ghost use Rattle.names.specs.Labels.{proper};
-ghost use Rattle.names.specs.Names.{labels, given};
+ghost use Rattle.names.specs.Names.{labels, given, one_more};
 ghost use Rattle.names.specs.Readers.{unread};
 ghost use Rattle.names.specs.Wire.{wire, cut_label, Appends, read_wire, name_read, rest_read, WireLaws};
 
@@ -18,6 +18,18 @@ fn cut_label(bytes: &[u8]) -> Option<(&[u8], &[u8])>
     let (len, rest) = bytes.split_first()?;
     let len = *len as usize;
     rest.split_at_checked(len)
+}
+
+// One label more, unless one before it was bad.
+fn push_label(name: &mut Result<Name, Fault>, label: &[u8])
+    ensures { given name.new ≡ one_more (given name.old) label.now }
+{
+    let Ok(upper) = name else {
+        return;
+    };
+    if let Err(fault) = upper.push(label) {
+        *name = Err(fault);
+    }
 }
 
 // Reads from the front of a packet; what is refused stays there to be read.
@@ -55,7 +67,7 @@ impl<'a> Reader<'a> {
             let Some((label, after)) = cut_label(rest) else {
                 return Err(Fault::Malformed);
             };
-            name = name.and_then(|upper| upper.child(label));
+            push_label(&mut name, label);
             rest = after;
         }
         let name = name?;

@@ -4,7 +4,7 @@ use Rattle.std.proofs.lemmas.Slice.{first_rest}
 use Rattle.std.proofs.lemmas.Result.{err_from_is_err_and}
 use Rattle.names.specs.Names.{labels, given, name_of}
 use Rattle.names.specs.Wire.{read_wire, name_read, rest_read}
-use Rattle.names.proofs.Cutting.{Cutting, none_cut, one_cut, cut_short, cut_bad, cut_good, one_then, read_empty}
+use Rattle.names.proofs.Cutting.{Cutting, none_cut, one_cut, cut_short, cut_bad, cut_good, read_empty}
 use Rattle.names.proofs.name.wire.Reader.name.Goals as goal
 
 pub returns-in_default : goal.returns-in_default
@@ -33,9 +33,8 @@ loop-preserved c =
     let bs = c.args.self.now.rest.now in
     let n = get_or bs 0 0 in
     let k : n - c.loop.counter - 1 ≡ n - (c.loop.counter + 1) = omega arith in
-    let m : MatchResult c.loop.name (λ x. given c.and_then-name.result ≡ name_of (labels x ++ c.in-Some.label.now ∷ [])) (λ f. c.and_then-name.result ≡ Err f) = search rules in
-    subst (λ j. Cutting n (between 1 (length bs) bs) (given c.and_then-name.result) j c.in-Some.after.now) k
-    (one_cut _ _ _ _ _ _ c.in-Some.label.now c.in-Some.after.now c.loop.invariant (omega arith) (sym c.in-Some.ensures) (one_then c.loop.name c.and_then-name.result c.in-Some.label.now m))
+    subst (λ j. Cutting n (between 1 (length bs) bs) (given c.push_label.new.name) j c.in-Some.after.now) k
+    (one_cut _ _ _ _ _ _ c.in-Some.label.now c.in-Some.after.now c.loop.invariant (omega arith) (sym c.in-Some.ensures) c.push_label.ensures)
 
 pub returns-in_err-name : goal.returns-in_err-name
 returns-in_err-name c =
