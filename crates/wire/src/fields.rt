@@ -101,6 +101,7 @@ impl<'a> Fields<'a> {
     }
 
     // What is cut short is told before what is no name, so a bad name is no end yet.
+    #[inline]
     pub fn name(&mut self) -> Option<Result<Name, Fault>>
         ensures { Takes IsName (cut_list (unread self.old)) (unread self.old) result (unread self.new) }
     {
