@@ -3,6 +3,7 @@ mod Shaping
 mod Putting
 mod Copying
 mod Telling
+mod Front
 mod Texting
 mod Sizes
 mod Backs

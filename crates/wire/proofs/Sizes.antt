@@ -167,7 +167,7 @@ few_addresses ps few h =
     let a = addresses_weigh ps h in
     omega arith
 
-content_short : (k : ℕ) (c : Content) → fits k c ≡ true → content_keeps c ≡ true → length (wire_labels (pieces c)) ≤ 616
+pub content_short : (k : ℕ) (c : Content) → fits k c ≡ true → content_keeps c ≡ true → length (wire_labels (pieces c)) ≤ 616
 content_short k (Addresses ps) h s = few_addresses ps (leb-true (length ps) 16 (and_parts (eqb k 1) (leb (length ps) 16) h).1) s
 content_short k (Texts ps) h s = fit_wire ps (and_parts (eqb k 2) (pieces_fit ps) h).1
 content_short k (Others ps) h s = fit_wire ps (and_parts (plain k) (pieces_fit ps) h).1

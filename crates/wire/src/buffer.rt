@@ -13,6 +13,7 @@ use names::Name;
 use records::{Address, Kind};
 
 pub mod copying;
+pub mod front;
 pub mod sets;
 
 pub const MAX_PACKET: usize = 1200;

@@ -42,7 +42,7 @@ impl Buffer {
     }
 
     // Data of the kind that they fit.
-    fn data(&mut self, kind: Kind, content: &Data)
+    pub fn data(&mut self, kind: Kind, content: &Data)
         requires { fits kind.number (content_of content.now) ≡ true }
         ensures put { written self.new ≡ joined (written self.old) (wire (pieces (content_of content.now))) }
         ensures kept { content_keeps (content_of content.now) ≡ true }

@@ -1,0 +1,3 @@
+mod Searched
+mod Judging
+mod Together

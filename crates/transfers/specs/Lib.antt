@@ -1,0 +1,4 @@
+pub mod Splitting
+pub mod Joining
+pub mod Joinings
+pub mod TransferLaws

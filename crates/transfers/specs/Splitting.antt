@@ -1,0 +1,63 @@
+-- How a zone is cut into the parts of a transfer. Assumes nothing.
+use Rattle.std.specs.Prelude.{◌≡◌, ℕ, zero, suc, ◌+◌, ◌≤◌, ◌<◌, Bool, true, cond, ◌&&◌, List, [], ◌∷◌, ◌++◌, length, nat_le}
+use Rattle.meaning.specs.Model.{Set, Zone}
+use Rattle.meaning.specs.Transfer.{all_transferred}
+use Rattle.wire.specs.Parts.{Part, head_keeps, sets_keep, part_keeps}
+use Rattle.wire.specs.Shapes.{Times, Head}
+
+-- a packet has 1,200 bytes, of which 41 stand before the sets
+abbrev pub room : ℕ
+room = 1159
+
+-- ---- rows: as many sets in each as fit, in the order in which they stand
+
+-- the first is under way already; a zone without sets is one row without sets
+unfoldable pub rows_behind : List Set → List Set → List (List Set)
+rows_behind row [] = row ∷ []
+rows_behind row (s ∷ ss) =
+    cond (nat_le (length (all_transferred (row ++ s ∷ []))) room)
+    (rows_behind (row ++ s ∷ []) ss)
+    (row ∷ rows_behind (s ∷ []) ss)
+
+abbrev pub rows : List Set → List (List Set)
+rows ss = rows_behind [] ss
+
+-- ---- parts: the rows behind their heads, counted from 1
+
+abbrev pub times_of : Zone → Times
+times_of z = record { negative = z.negative; refresh = z.refresh; expire = z.expire }
+
+abbrev pub part_from : Zone → ℕ → ℕ → ℕ → ℕ → List Set → Part
+part_from z id moment of n row = record {
+  head = record { id = id; serial = z.serial; moment = moment; times = times_of z; part = n; of = of };
+  sets = row;
+}
+
+unfoldable pub parts_from : Zone → ℕ → ℕ → ℕ → ℕ → List (List Set) → List Part
+parts_from z id moment of n [] = []
+parts_from z id moment of n (r ∷ rs) = part_from z id moment of n r ∷ parts_from z id moment of (n + 1) rs
+
+abbrev pub split : Zone → ℕ → ℕ → List Part
+split z id moment = parts_from z id moment (length (rows z.sets)) 1 (rows z.sets)
+
+-- ---- what holds of them
+
+unfoldable pub all_sets : List Part → List Set
+all_sets [] = []
+all_sets (p ∷ ps) = p.sets ++ all_sets ps
+
+abbrev pub all_keep : List Part → Bool
+all_keep [] = true
+all_keep (p ∷ ps) = part_keeps p && all_keep ps
+
+pub record SplitLaws : Type 0 where
+  -- the sets of all parts, one behind the other, are the zone's
+  pub whole : (z : Zone) (id moment : ℕ) → all_sets (split z id moment) ≡ z.sets
+  -- each part keeps the rules of packets: none is too long
+  pub fits : (z : Zone) (id moment : ℕ) → head_keeps (part_from z id moment 1 1 []).head ≡ true → sets_keep z.sets ≡ true → length z.sets ≤ 4096 → all_keep (split z id moment) ≡ true
+  -- each is as full as can be: with the first set of the next one it would be too long
+  pub full : (z : Zone) (front back : List (List Set)) (a b : List Set) (s : Set) → rows z.sets ≡ front ++ a ∷ (s ∷ b) ∷ back → room < length (all_transferred (a ++ s ∷ []))
+  -- and where there are several, none is without sets
+  pub several : (z : Zone) (front back : List (List Set)) (row : List Set) → sets_keep z.sets ≡ true → rows z.sets ≡ front ++ row ∷ back → 1 < length (rows z.sets) → 1 ≤ length row
+  -- there is one at least, and no more than sets, unless there is none
+  pub few : (z : Zone) → sets_keep z.sets ≡ true → (1 ≤ length (rows z.sets)) × (1 ≤ length z.sets → length (rows z.sets) ≤ length z.sets)
