@@ -1,2 +1,6 @@
 // Zones in parts: cut into packets by the one that has a zone, and put together by the one that keeps a copy.
 #![tactic(auto)]
+
+mod splitting;
+
+pub use splitting::{Part, split};

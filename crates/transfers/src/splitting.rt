@@ -1,0 +1,73 @@
+// A zone is cut into the parts of its transfer.
+ghost use Rattle.std.specs.Prelude.{◌≡◌, map, vec_items, MatchResult};
+ghost use Rattle.names.specs.declared.fault.Fault.TheVariants.{NoMemory};
+ghost use Rattle.records.specs.Sets.{set_of};
+ghost use Rattle.zones.specs.Zones.{zone_of};
+ghost use Rattle.transfers.specs.Splitting.{rows, split};
+ghost use Rattle.transfers.specs.Sent.{part_of};
+
+use cache::{Moment, QueryId};
+use names::Fault;
+use records::RecordSet;
+use std::alloc::Global;
+use wire::PartHead;
+use zones::{Times, Zone};
+
+// A packet has 1,200 bytes, of which 41 stand before the sets.
+const ROOM: usize = 1159;
+
+// A part as it is sent: no set is copied.
+#[derive(Clone, Copy)]
+pub struct Part<'a> {
+    pub head: PartHead,
+    pub sets: &'a [RecordSet],
+}
+
+// As many sets in each row as fit, in the order in which they stand.
+fn rows<'a>(heap: Global, sets: &'a [RecordSet]) -> Result<Vec<&'a [RecordSet]>, Fault>
+    ensures { MatchResult result (λ v. map (λ r. map set_of r.now) v.items ≡ rows (map set_of sets.now)) (λ f. f ≡ NoMemory) }
+{
+    let mut rows = Vec::new(heap);
+    let mut start: usize = 0;
+    let mut len: usize = 0;
+    for (at, set) in sets.iter().enumerate() {
+        let more = set.transfer_len();
+        if len + more > ROOM {
+            rows.push(&sets[start..at])?;
+            start = at;
+            len = 0;
+        }
+        len += more;
+    }
+    rows.push(&sets[start..])?;
+    Ok(rows)
+}
+
+fn times(zone: &Zone) -> Times {
+    Times {
+        negative: zone.negative(),
+        refresh: zone.refresh(),
+        expire: zone.expire(),
+    }
+}
+
+// The parts are counted from 1.
+pub fn split<'a>(heap: Global, zone: &'a Zone, id: QueryId, moment: Moment) -> Result<Vec<Part<'a>>, Fault>
+    ensures { MatchResult result (λ v. map part_of v.items ≡ split (zone_of zone.now) id.0 moment.0) (λ f. f ≡ NoMemory) }
+{
+    let rows = rows(heap, zone.sets())?;
+    let mut head = PartHead {
+        id,
+        serial: zone.serial(),
+        moment,
+        times: times(zone),
+        part: 0,
+        of: rows.len() as u16,
+    };
+    let mut parts = Vec::with_capacity(heap, rows.len())?;
+    for row in rows {
+        head.part += 1;
+        parts.push(Part { head, sets: row })?;
+    }
+    Ok(parts)
+}
