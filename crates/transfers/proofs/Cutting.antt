@@ -1,38 +1,14 @@
 -- Rows as the code makes them, one set after the other.
-use Rattle.std.proofs.Common.{◌≡◌, ℕ, ◌+◌, ◌<◌, ◌≤◌, Bool, true, false, cond, leb, List, [], ◌∷◌, ◌++◌, map, length, get_or, drop, sym, refl, ap, ◌∙◌, append_assoc, arith, length-append}
+use Rattle.std.proofs.Common.{◌≡◌, ℕ, ◌+◌, ◌<◌, ◌≤◌, List, [], ◌∷◌, ◌++◌, map, length, get_or, drop, sym, ap, ◌∙◌, append_assoc, arith}
 use Rattle.std.specs.List.{between}
-use Rattle.std.proofs.lemmas.Bool.{cond-true, cond-false, le-leb, lt-leb}
 use Rattle.std.proofs.lemmas.List.{map-append, drop_more, drop_all}
 use Rattle.std.proofs.lemmas.List.Edits.{between_none, between_more}
 use Rattle.std.proofs.lemmas.Slice.{between_to_end}
 use Rattle.meaning.specs.Model.{Set}
 use Rattle.meaning.specs.Transfer.{transferred, all_transferred}
-use Rattle.meaning.proofs.Carried.{length_all, length_none}
+use Rattle.meaning.proofs.Carried.{length_none}
 use Rattle.transfers.specs.Splitting.{room, rows_behind, rows}
-
-pub length_more : (ss : List Set) (s : Set) → length (all_transferred (ss ++ s ∷ [])) ≡ length (all_transferred ss) + length (transferred s)
-length_more [] s = let a = length_all s [] in let z = length_none in omega arith
-length_more (t ∷ ss) s =
-    let h = length_more ss s in
-    let a = length_all t (ss ++ s ∷ []) in
-    let b = length_all t ss in
-    omega arith
-
--- ---- one set more
-
-pub rows_on : (row : List Set) (s : Set) (ss : List Set) → length (all_transferred (row ++ s ∷ [])) ≤ room → rows_behind row (s ∷ ss) ≡ rows_behind (row ++ s ∷ []) ss
-unfolding rows_behind
-rows_on row s ss h = cond-true (leb (length (all_transferred (row ++ s ∷ []))) room) (rows_behind (row ++ s ∷ []) ss) (row ∷ rows_behind (s ∷ []) ss) (le-leb (length (all_transferred (row ++ s ∷ []))) room h)
-
-pub rows_cut : (row : List Set) (s : Set) (ss : List Set) → room < length (all_transferred (row ++ s ∷ [])) → rows_behind row (s ∷ ss) ≡ row ∷ rows_behind (s ∷ []) ss
-unfolding rows_behind
-rows_cut row s ss h = cond-false (leb (length (all_transferred (row ++ s ∷ []))) room) (rows_behind (row ++ s ∷ []) ss) (row ∷ rows_behind (s ∷ []) ss) (lt-leb (length (all_transferred (row ++ s ∷ []))) room h)
-
-pub rows_end : (row : List Set) → rows_behind row [] ≡ row ∷ []
-unfolding rows_behind
-rows_end row = refl
-
--- ---- along the code's list
+use Rattle.transfers.proofs.Rows.{length_more, rows_on, rows_cut, rows_end}
 
 module _ {X : Type 0} (f : X → Set) (xs : List X) where
   abbrev pub Row : ℕ → ℕ → List Set
@@ -89,10 +65,10 @@ module _ {X : Type 0} (f : X → Set) (xs : List X) where
             short = fit;
             weighed = b ∙ ap (λ ys. length (all_transferred ys)) (sym (longer s o));
             done =
-            ap (λ r. rs ++ rows_behind r (map f (drop (i + 1) xs))) (longer s o)
-            ∙ ap (λ r. rs ++ r) (sym (rows_on (Row s i) (f x) (map f (drop (i + 1) xs)) (omega arith)))
-            ∙ ap (λ ys. rs ++ rows_behind (Row s i) ys) (sym left)
-            ∙ g.done;
+                ap (λ r. rs ++ rows_behind r (map f (drop (i + 1) xs))) (longer s o)
+                ∙ ap (λ r. rs ++ r) (sym (rows_on (Row s i) (f x) (map f (drop (i + 1) xs)) (omega arith)))
+                ∙ ap (λ ys. rs ++ rows_behind (Row s i) ys) (sym left)
+                ∙ g.done;
           }
 
       -- it doesn't, so it begins the next row
@@ -107,10 +83,10 @@ module _ {X : Type 0} (f : X → Set) (xs : List X) where
             short = omega arith;
             weighed = omega arith;
             done =
-            ap (λ ys. ys ++ rows_behind (Row i (i + 1)) (map f (drop (i + 1) xs))) t
-            ∙ ap (λ r. (rs ++ Row s i ∷ []) ++ rows_behind r (map f (drop (i + 1) xs))) alone
-            ∙ append_assoc rs (Row s i ∷ []) (rows_behind (f x ∷ []) (map f (drop (i + 1) xs)))
-            ∙ ap (λ r. rs ++ r) (sym (rows_cut (Row s i) (f x) (map f (drop (i + 1) xs)) (omega arith)))
-            ∙ ap (λ ys. rs ++ rows_behind (Row s i) ys) (sym left)
-            ∙ g.done;
+                ap (λ ys. ys ++ rows_behind (Row i (i + 1)) (map f (drop (i + 1) xs))) t
+                ∙ ap (λ r. (rs ++ Row s i ∷ []) ++ rows_behind r (map f (drop (i + 1) xs))) alone
+                ∙ append_assoc rs (Row s i ∷ []) (rows_behind (f x ∷ []) (map f (drop (i + 1) xs)))
+                ∙ ap (λ r. rs ++ r) (sym (rows_cut (Row s i) (f x) (map f (drop (i + 1) xs)) (omega arith)))
+                ∙ ap (λ ys. rs ++ rows_behind (Row s i) ys) (sym left)
+                ∙ g.done;
           }

@@ -1,5 +1,5 @@
 -- How parts of a transfer are put together to a zone, whatever the order in which they come. Assumes nothing.
-use Rattle.std.specs.Prelude.{◌≡◌, ℕ, zero, suc, ◌+◌, Bool, true, false, cond, not, ◌&&◌, ◌||◌, List, [], ◌∷◌, length, is_some, Ok, Err, Result, ◌==◌, nat_le, nat_lt}
+use Rattle.std.specs.Prelude.{ℕ, zero, suc, ◌+◌, Bool, true, false, cond, not, ◌&&◌, ◌||◌, List, [], ◌∷◌, length, is_some, Ok, Err, Result, ◌==◌, nat_le, nat_lt}
 use Rattle.names.specs.declared.fault.Fault.{Fault}
 use Rattle.names.specs.declared.fault.Fault.TheVariants.{Misplaced, Conflict, TooMuch, BadTransfer}
 use Rattle.names.specs.Order.{within}
@@ -8,7 +8,7 @@ use Rattle.meaning.specs.Says.{same, is_exactly, find}
 use Rattle.zones.specs.Valid.{clashes, no_clash, insert_set}
 use Rattle.wire.specs.Packets.{next}
 use Rattle.wire.specs.Parts.{Part}
-use Rattle.wire.specs.Shapes.{Times, Head}
+use Rattle.wire.specs.Shapes.{Times}
 
 -- ---- sets beside those that are there
 
@@ -115,8 +115,8 @@ unfoldable pub take : Part → Joining → Result Joining Fault
 take p j =
     cond (belongs_to j p)
     (cond (is_there j.there p.head.part)
-      (next (joined j.apex [] p.sets) (λ ss. Ok j))
-      (next (joined j.apex j.sets p.sets) (λ ss. Ok (with_part j p ss))))
+    (next (joined j.apex [] p.sets) (λ ss. Ok j))
+    (next (joined j.apex j.sets p.sets) (λ ss. Ok (with_part j p ss))))
     (next (joined j.apex [] p.sets) (λ ss. Err BadTransfer))
 
 -- the zone, once all parts are there

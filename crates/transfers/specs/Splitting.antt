@@ -1,9 +1,9 @@
 -- How a zone is cut into the parts of a transfer. Assumes nothing.
-use Rattle.std.specs.Prelude.{◌≡◌, ℕ, zero, suc, ◌+◌, ◌≤◌, ◌<◌, Bool, true, cond, ◌&&◌, List, [], ◌∷◌, ◌++◌, length, nat_le}
+use Rattle.std.specs.Prelude.{◌≡◌, ℕ, ◌+◌, ◌≤◌, ◌<◌, Bool, true, cond, ◌&&◌, List, [], ◌∷◌, ◌++◌, length, nat_le}
 use Rattle.meaning.specs.Model.{Set, Zone}
 use Rattle.meaning.specs.Transfer.{all_transferred}
 use Rattle.wire.specs.Parts.{Part, head_keeps, sets_keep, part_keeps}
-use Rattle.wire.specs.Shapes.{Times, Head}
+use Rattle.wire.specs.Shapes.{Times}
 
 -- a packet has 1,200 bytes, of which 41 stand before the sets
 abbrev pub room : ℕ

@@ -1,5 +1,5 @@
 -- What holds of splitting and putting together.
-use Rattle.std.specs.Prelude.{◌≡◌, ℕ, ◌≤◌, ◌⊎◌, Bool, true, List, [], ◌∷◌, ◌++◌, length, Ok, Err}
+use Rattle.std.specs.Prelude.{◌≡◌, ℕ, ◌⊎◌, true, List, ◌∷◌, length, Ok}
 use mathlib.Core.List.{Memᴰ}
 use Rattle.meaning.specs.Model.{Set, Zone}
 use Rattle.zones.specs.Sorted.{sorted}

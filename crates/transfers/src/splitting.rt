@@ -1,9 +1,10 @@
 // A zone is cut into the parts of its transfer.
-ghost use Rattle.std.specs.Prelude.{◌≡◌, map, vec_items, MatchResult};
+ghost use Rattle.std.specs.Prelude.{◌≡◌, [], map, MatchResult};
 ghost use Rattle.names.specs.declared.fault.Fault.TheVariants.{NoMemory};
 ghost use Rattle.records.specs.Sets.{set_of};
 ghost use Rattle.zones.specs.Zones.{zone_of};
-ghost use Rattle.transfers.specs.Splitting.{rows, split};
+ghost use Rattle.wire.specs.Heads.{head_of};
+ghost use Rattle.transfers.specs.Splitting.{rows, part_from, split};
 ghost use Rattle.transfers.specs.Sent.{part_of};
 
 use cache::{Moment, QueryId};
@@ -43,31 +44,40 @@ fn rows<'a>(heap: Global, sets: &'a [RecordSet]) -> Result<Vec<&'a [RecordSet]>,
     Ok(rows)
 }
 
-fn times(zone: &Zone) -> Times {
-    Times {
+// What stands before the sets, of as many parts, before the first one.
+fn head_before(zone: &Zone, id: QueryId, moment: Moment, of: u16) -> PartHead
+    ensures { head_of result ≡ (part_from (zone_of zone.now) id.0 moment.0 of 0 []).head }
+{
+    let times = Times {
         negative: zone.negative(),
         refresh: zone.refresh(),
         expire: zone.expire(),
-    }
-}
-
-// The parts are counted from 1.
-pub fn split<'a>(heap: Global, zone: &'a Zone, id: QueryId, moment: Moment) -> Result<Vec<Part<'a>>, Fault>
-    ensures { MatchResult result (λ v. map part_of v.items ≡ split (zone_of zone.now) id.0 moment.0) (λ f. f ≡ NoMemory) }
-{
-    let rows = rows(heap, zone.sets())?;
-    let mut head = PartHead {
+    };
+    PartHead {
         id,
         serial: zone.serial(),
         moment,
-        times: times(zone),
+        times,
         part: 0,
-        of: rows.len() as u16,
-    };
+        of,
+    }
+}
+
+// The parts of a zone, counted from 1.
+pub fn split<'a>(
+    heap: Global,
+    zone: &'a Zone,
+    id: QueryId,
+    moment: Moment,
+) -> Result<Vec<Part<'a>>, Fault>
+    ensures { MatchResult result (λ v. map part_of v.items ≡ split (zone_of zone.now) id.0 moment.0) (λ f. f ≡ NoMemory) }
+{
+    let rows = rows(heap, zone.sets())?;
+    let mut head = head_before(zone, id, moment, rows.len() as u16);
     let mut parts = Vec::with_capacity(heap, rows.len())?;
-    for row in rows {
+    for row in rows.as_slice() {
         head.part += 1;
-        parts.push(Part { head, sets: row })?;
+        parts.push(Part { head, sets: *row })?;
     }
     Ok(parts)
 }

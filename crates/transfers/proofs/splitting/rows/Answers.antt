@@ -1,4 +1,4 @@
-use Rattle.std.proofs.Common.{◌≡◌, ◌++◌, [], ◌∷◌, map, vec_items, length, ap, sym, ◌∙◌, arith, rules}
+use Rattle.std.proofs.Common.{◌≡◌, ◌++◌, [], ◌∷◌, map, vec_items, length, ap, ◌∙◌, arith, rules}
 use Rattle.std.proofs.lemmas.List.{map-append}
 use Rattle.records.specs.Sets.{set_of}
 use Rattle.transfers.proofs.Cutting.{Row, none_going, one_on, one_cut, all_gone}
@@ -14,11 +14,12 @@ loop-at-preserved c =
     let i = c.loop-at.at in
     let x = c.index-sets-at.result in
     let e = c.transfer_len-more.ensures in
-    elim c.if-len-more-gt-ROOM.branch
-    [ then-len-more-gt-ROOM+in_ok-push w ↦
-      let more : map (λ r. map set_of r.now) w.push.new.self.items ≡ map (λ r. map set_of r.now) (vec_items c.loop-at.rows) ++ Row set_of sets c.loop-at.start i ∷ [] = search (rules, map-append) in
-      rw (w.rows-is, w.start-is, w.len-is) (one_cut set_of sets i x c.loop-at-test.true c.index-sets-at.is _ _ _ _ c.loop-at.invariant e.value _ more (omega arith) (omega arith))
-    | else-len-more-gt-ROOM w ↦ rw (w.rows-is, w.start-is, w.len-is) (one_on set_of sets i x c.loop-at-test.true c.index-sets-at.is _ _ _ _ c.loop-at.invariant e.value (omega arith)) ]
+    elim c.if-len-more-gt-ROOM.branch [
+      | then-len-more-gt-ROOM+in_ok-push w ↦
+          let more : map (λ r. map set_of r.now) w.push.new.self.items ≡ map (λ r. map set_of r.now) (vec_items c.loop-at.rows) ++ Row set_of sets c.loop-at.start i ∷ [] = search (rules, map-append) in
+          rw (w.rows-is, w.start-is, w.len-is) (one_cut set_of sets i x c.loop-at-test.true c.index-sets-at.is _ _ _ _ c.loop-at.invariant e.value _ more (omega arith) (omega arith))
+      | else-len-more-gt-ROOM w ↦ rw (w.rows-is, w.start-is, w.len-is) (one_on set_of sets i x c.loop-at-test.true c.index-sets-at.is _ _ _ _ c.loop-at.invariant e.value (omega arith))
+    ]
 
 pub returns : goal.returns
 returns c =
