@@ -1,3 +1,4 @@
 mod Rows
 mod Cutting
 mod Numbering
+mod Parting

@@ -57,7 +57,7 @@ rows_limited apex ss v =
     let m = rows_many [] ss in
     omega arith
 
-rows_some : (row : List Set) (ss : List Set) → 1 ≤ length (rows_behind row ss)
+pub rows_some : (row : List Set) (ss : List Set) → 1 ≤ length (rows_behind row ss)
 rows_some row [] = let e = ap length (rows_end row) in omega arith
 rows_some row (s ∷ ss) =
     ⊎_elim
@@ -85,8 +85,8 @@ rows_whole ss = rows_joint [] ss
 -- ---- what holds of each row: of one under way, with a set more that fits, and with its first set
 
 module _ (P : List Set → Type 0) (Q : Set → Type 0)
-  (more : (row : List Set) (s : Set) → P row → Q s → length (all_transferred (row ++ s ∷ [])) ≤ room → P (row ++ s ∷ []))
-  (first : (s : Set) → Q s → P (s ∷ [])) where
+    (more : (row : List Set) (s : Set) → P row → Q s → length (all_transferred (row ++ s ∷ [])) ≤ room → P (row ++ s ∷ []))
+    (first : (s : Set) → Q s → P (s ∷ [])) where
   pub each_row : (row : List Set) (ss : List Set) → P row → ((s : Set) → Memᴰ s ss → Q s) → (r : List Set) → Memᴰ r (rows_behind row ss) → P r
   each_row row [] p q r m = ⊎_elim (λ e. subst P (sym e) p) (λ n. absurd (Memᴰ.not-nil n)) (Memᴰ.cases_cons (subst (Memᴰ r) (rows_end row) m))
   each_row row (s ∷ ss) p q r m =

@@ -1,0 +1,125 @@
+-- Parts of a transfer: rows behind their heads.
+use Rattle.std.proofs.Common.{◌≡◌, ℕ, ◌+◌, ◌<◌, ◌≤◌, Bool, true, ◌&&◌, leb, ltb, List, [], ◌∷◌, ◌++◌, length, sym, refl, ap, ◌∙◌, subst, ⊎_elim, arith, length-append}
+use mathlib.Core.List.Memᴰ
+use mathlib.Core.List.{Memᴰ}
+use Rattle.std.proofs.lemmas.Bool.{and_parts, and_from, le-leb, lt-ltb}
+use Rattle.meaning.specs.Model.{is_serial, Set, Zone}
+use Rattle.meaning.specs.Transfer.{all_transferred}
+use Rattle.meaning.proofs.Carried.{length_none}
+use Rattle.wire.specs.Laws.{PacketLaws}
+use Rattle.wire.specs.Parts.{head_bytes, part_bytes, times_keep, head_keeps, set_keeps, sets_keep, part_keeps}
+use Rattle.wire.specs.Shapes.{Head}
+use Rattle.transfers.specs.Splitting.{room, rows_behind, rows, part_from, parts_from, split, all_sets, all_keep, SplitLaws}
+use Rattle.transfers.proofs.Rows.{rows_on, rows_end, rows_many, rows_some, joint, rows_whole, each_row, full}
+
+-- ---- how long parts are
+
+head_long : (h : Head) → length (head_bytes h) ≡ 40
+head_long h = refl
+
+pub part_long : (h : Head) (ss : List Set) → length (part_bytes (record { head = h; sets = ss })) ≡ 41 + length (all_transferred ss)
+unfolding part_bytes
+part_long h ss =
+    let a = length-append (head_bytes h) (all_transferred ss) in
+    let l = head_long h in
+    omega arith
+
+-- ---- sets that keep the rules
+
+pub set_in : (ss : List Set) (s : Set) → sets_keep ss ≡ true → Memᴰ s ss → set_keeps s ≡ true
+set_in [] s h m = absurd (Memᴰ.not-nil m)
+set_in (t ∷ ss) s h m =
+    let p = and_parts (set_keeps t) (sets_keep ss) h in
+    ⊎_elim (λ e. ap set_keeps e ∙ p.0) (λ n. set_in ss s p.1 n) (Memᴰ.cases_cons m)
+
+one_more : (ss : List Set) (s : Set) → sets_keep ss ≡ true → set_keeps s ≡ true → sets_keep (ss ++ s ∷ []) ≡ true
+one_more [] s h k = and_from (set_keeps s) true k refl
+one_more (t ∷ ss) s h k =
+    let p = and_parts (set_keeps t) (sets_keep ss) h in
+    and_from (set_keeps t) (sets_keep (ss ++ s ∷ [])) p.0 (one_more ss s p.1 k)
+
+module _ (laws : PacketLaws) where
+  alone : (s : Set) → set_keeps s ≡ true → length (all_transferred (s ∷ [])) ≤ room
+  alone s h =
+      let any : Head = record { id = 0; serial = 0; moment = 0; times = record { negative = 0; refresh = 0; expire = 0 }; part = 0; of = 0 } in
+      let f = laws.set_fits any s h in
+      let l = part_long any (s ∷ []) in
+      omega arith
+
+  -- ---- rows of such sets
+
+  pub Fits : List Set → Type 0
+  Fits r = (sets_keep r ≡ true) × (length (all_transferred r) ≤ room)
+
+  rows_fit : (ss : List Set) → sets_keep ss ≡ true → (r : List Set) → Memᴰ r (rows ss) → Fits r
+  unfolding Fits
+  rows_fit ss h r m =
+      let z = length_none in
+      each_row Fits (λ s. set_keeps s ≡ true) (λ row s p k l. (one_more row s p.0 k, l)) (λ s k. (one_more [] s refl k, alone s k)) [] ss (refl, omega arith) (λ s k. set_in ss s h k) r m
+
+  -- the first set always fits
+  begun : (s : Set) (ss : List Set) → sets_keep (s ∷ ss) ≡ true → rows (s ∷ ss) ≡ rows_behind (s ∷ []) ss
+  begun s ss h = rows_on [] s ss (alone s (and_parts (set_keeps s) (sets_keep ss) h).0)
+
+  several : (ss : List Set) (front back : List (List Set)) (row : List Set) → sets_keep ss ≡ true → rows ss ≡ front ++ row ∷ back → 1 < length (rows ss) → 1 ≤ length row
+  several [] front back row h e l = let n = ap length (rows_end []) in absurd (omega arith)
+  several (s ∷ ss) front back row h e l =
+      each_row (λ r. 1 ≤ length r) (λ _. Unit {0}) (λ r t _ _ _. let n = length-append r (t ∷ []) in omega arith) (λ t _. omega arith) (s ∷ []) ss (omega arith) (λ _ _. tt) row
+      (subst (Memᴰ row) (sym e ∙ begun s ss h) (Memᴰ.append_right front (Memᴰ.head refl)))
+
+  few : (ss : List Set) → sets_keep ss ≡ true → (1 ≤ length (rows ss)) × (1 ≤ length ss → length (rows ss) ≤ length ss)
+  few [] h = (rows_some [] [], λ l. absurd (omega arith))
+  few (s ∷ ss) h =
+      let n = ap length (begun s ss h) in
+      let m = rows_many (s ∷ []) ss in
+      (rows_some [] (s ∷ ss), λ _. omega arith)
+
+  -- ---- parts of such rows
+
+  -- all of a head but the counts
+  abbrev version_keeps : Head → Bool
+  version_keeps h = ltb h.id 18446744073709551616 && ltb h.serial 18446744073709551616 && is_serial h.serial && ltb h.moment 18446744073709551616 && times_keep h.times
+
+  counted : (h : Head) → version_keeps h ≡ true → h.part < 65536 → h.of < 65536 → head_keeps h ≡ true
+  counted h v l m =
+      and_from (version_keeps h && ltb h.part 65536) (ltb h.of 65536) (and_from (version_keeps h) (ltb h.part 65536) v (lt-ltb h.part 65536 l)) (lt-ltb h.of 65536 m)
+
+  version : (h : Head) → head_keeps h ≡ true → version_keeps h ≡ true
+  version h k = (and_parts (version_keeps h) (ltb h.part 65536) (and_parts (version_keeps h && ltb h.part 65536) (ltb h.of 65536) k).0).0
+
+  module _ (z : Zone) (id moment of : ℕ) (v : version_keeps (part_from z id moment 1 1 []).head ≡ true) (m : of < 65536) where
+    one_keeps : (n : ℕ) (r : List Set) → n < 65536 → Fits r → part_keeps (part_from z id moment of n r) ≡ true
+    unfolding Fits
+    one_keeps n r l f =
+        let h = (part_from z id moment of n r).head in
+        let long = part_long h r in
+        let short = f.1 in
+        and_from (head_keeps h && sets_keep r) (leb (length (part_bytes (part_from z id moment of n r))) 1200)
+        (and_from (head_keeps h) (sets_keep r) (counted h v l m) f.0)
+        (le-leb (length (part_bytes (part_from z id moment of n r))) 1200 (omega arith))
+
+    parts_keep : (n : ℕ) (rs : List (List Set)) → n + length rs ≤ 65536 → ((r : List Set) → Memᴰ r rs → Fits r) → all_keep (parts_from z id moment of n rs) ≡ true
+    unfolding parts_from
+    parts_keep n [] l f = refl
+    parts_keep n (r ∷ rs) l f =
+        and_from (part_keeps (part_from z id moment of n r)) (all_keep (parts_from z id moment of (n + 1) rs)) (one_keeps n r (omega arith) (f r (Memᴰ.head refl)))
+        (parts_keep (n + 1) rs (omega arith) (λ q k. f q (Memᴰ.tail k)))
+
+  fits : (z : Zone) (id moment : ℕ) → head_keeps (part_from z id moment 1 1 []).head ≡ true → sets_keep z.sets ≡ true → length z.sets ≤ 4096 → all_keep (split z id moment) ≡ true
+  fits z id moment h k l =
+      let m = rows_many [] z.sets in
+      parts_keep z id moment (length (rows z.sets)) (version (part_from z id moment 1 1 []).head h) (omega arith) 1 (rows z.sets) (omega arith) (rows_fit z.sets k)
+
+  whole_from : (z : Zone) (id moment of n : ℕ) (rs : List (List Set)) → all_sets (parts_from z id moment of n rs) ≡ joint rs
+  unfolding all_sets parts_from
+  whole_from z id moment of n [] = refl
+  whole_from z id moment of n (r ∷ rs) = ap (λ xs. r ++ xs) (whole_from z id moment of (n + 1) rs)
+
+  pub split_laws : SplitLaws
+  split_laws = record {
+    whole = λ z id moment. whole_from z id moment (length (rows z.sets)) 1 (rows z.sets) ∙ rows_whole z.sets;
+    fits = fits;
+    full = λ z. full z.sets;
+    several = λ z. several z.sets;
+    few = λ z. few z.sets;
+  }
