@@ -2,3 +2,4 @@ mod Rows
 mod Cutting
 mod Numbering
 mod Parting
+mod Orders
