@@ -3,3 +3,4 @@ mod Cutting
 mod Numbering
 mod Parting
 mod Orders
+mod Inserting
