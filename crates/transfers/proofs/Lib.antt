@@ -4,3 +4,5 @@ mod Numbering
 mod Parting
 mod Orders
 mod Inserting
+mod Present
+mod Rejoining
