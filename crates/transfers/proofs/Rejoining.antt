@@ -1,8 +1,8 @@
 -- Parts of a zone, in whatever order they come, make the zone.
-use Rattle.std.proofs.Common.{◌≡◌, ℕ, zero, suc, ◌+◌, ◌<◌, ◌≤◌, Bool, true, false, cond, ◌&&◌, ◌||◌, eqb, leb, ltb, List, [], ◌∷◌, ◌++◌, length, Ok, Err, Result, sym, refl, ap, ◌∙◌, subst, ⊎_elim, append-nil, arith, length-append}
+use Rattle.std.proofs.Common.{◌≡◌, ℕ, zero, suc, ◌⊎◌, inl, inr, ◌+◌, ◌<◌, ◌≤◌, Bool, true, false, cond, ◌&&◌, ◌||◌, eqb, leb, ltb, List, [], ◌∷◌, ◌++◌, length, Ok, Err, Result, sym, refl, ap, ◌∙◌, subst, ⊎_elim, append-nil, arith, length-append}
 use mathlib.Core.List.Memᴰ
 use mathlib.Core.List.{Memᴰ}
-use Rattle.std.proofs.lemmas.Bool.{cond-true, cond-false, and_from, eq-eqb, le-leb, le-ltb, cases_eq, ne_eqb, or_left, or_right}
+use Rattle.std.proofs.lemmas.Bool.{cond-true, cond-false, and_from, eq-eqb, le-leb, le-ltb, cases_lt, not_from_false, lt-leb, false_from_ne_true, eqb-true, or_left, or_right}
 use Rattle.names.specs.declared.fault.Fault.{Fault}
 use Rattle.names.specs.declared.fault.Fault.TheVariants.{TooMuch, BadTransfer}
 use Rattle.meaning.specs.Model.{Set, Zone}
@@ -10,9 +10,10 @@ use Rattle.zones.specs.Sorted.{sorted}
 use Rattle.zones.specs.Valid.{valid}
 use Rattle.wire.specs.Packets.{next}
 use Rattle.wire.specs.Parts.{Part, sets_keep}
+use Rattle.wire.specs.Shapes.{Times}
 use Rattle.transfers.specs.Splitting.{rows, times_of, part_from, parts_from, split, SplitLaws}
 use Rattle.transfers.specs.Joining.{joined, Joining, same_times, has_sets, is_counted, belongs_to, is_there, marked, none_there, is_complete, with_part, begun, begin, take, zone_in, take_all, join}
-use Rattle.transfers.proofs.Rows.{joint, rows_whole}
+use Rattle.transfers.proofs.Rows.{joint, joint_append, rows_whole}
 use Rattle.transfers.proofs.Orders.{Good, good_from, good_middle}
 use Rattle.transfers.proofs.Inserting.{joins}
 use Rattle.transfers.proofs.Present.{present, Place, place, there_at, marked_at, marked_many, marked_keeps, marked_only, none_is_there, none_many, none_present, complete_from, complete_at, complete_present, present_at, present_good}
@@ -46,3 +47,162 @@ module _ (z : Zone) (id moment of : ℕ) where
   numbered n (r ∷ rs) (suc i) l =
       let h = numbered (n + 1) rs i (omega arith) in
       (h.0, Memᴰ.tail (subst (λ k. Memᴰ (part_from z id moment of k h.0) (parts_from z id moment of (n + 1) rs)) (omega arith) h.1))
+
+same_so : (s t : Times) → s ≡ t → same_times s t ≡ true
+same_so s t e =
+    and_from (eqb s.negative t.negative && eqb s.refresh t.refresh) (eqb s.expire t.expire)
+    (and_from (eqb s.negative t.negative) (eqb s.refresh t.refresh) (eq-eqb s.negative t.negative (ap (λ (x : Times). x.negative) e)) (eq-eqb s.refresh t.refresh (ap (λ (x : Times). x.refresh) e)))
+    (eq-eqb s.expire t.expire (ap (λ (x : Times). x.expire) e))
+
+next_ok : {A B : Type 0} (r : Result A Fault) (a : A) (f : A → Result B Fault) → r ≡ Ok a → next r f ≡ f a
+unfolding next
+next_ok r a f e = ap (λ x. next x f) e
+
+module _ (laws : SplitLaws) (z : Zone) (id moment : ℕ) (o : sorted z.sets ≡ true) (v : valid z.apex z.sets ≡ true) (keep : sets_keep z.sets ≡ true) where
+  abbrev all : List (List Set)
+  all = rows z.sets
+
+  good : Good z.apex (joint all)
+  good = subst (Good z.apex) (sym (rows_whole z.sets)) (good_from z.apex z.sets o v)
+
+  -- ---- a part, its row, and its number
+
+  abbrev pub Located : Part → Type 0
+  Located p = Among z id moment (length all) p 1 all
+
+  located : (p : Part) → Memᴰ p (split z id moment) → Located p
+  located p m = among z id moment (length all) p 1 all m
+
+  module _ (p : Part) (a : Located p) where
+    number : p.head.part ≡ suc (length a.front)
+    number = let e = ap (λ (q : Part). q.head.part) a.part_is in omega arith
+
+    of : p.head.of ≡ length all
+    of = ap (λ (q : Part). q.head.of) a.part_is
+
+    sets : p.sets ≡ a.row
+    sets = ap (λ (q : Part). q.sets) a.part_is
+
+    count : length all ≡ length a.front + 1 + length a.back
+    count = let e = ap length a.whole in let n = length-append a.front (a.row ∷ a.back) in omega arith
+
+    -- of several none is without sets
+    has : (eqb p.head.of 1 || has_sets p) ≡ true
+    has =
+        let e = of in
+        let n = count in
+        ⊎_elim
+        (λ (l : 1 < length all).
+        let m = laws.several z a.front a.back a.row keep a.whole l in
+        let q = ap length sets in
+        or_right (eqb p.head.of 1) (has_sets p) (not_from_false (eqb (length p.sets) 0) (false_from_ne_true (eqb (length p.sets) 0) (λ z. let w = eqb-true (length p.sets) 0 z in omega arith))))
+        (λ (l : length all ≤ 1). or_left (eqb p.head.of 1) (has_sets p) (eq-eqb p.head.of 1 (omega arith)))
+        (cases_lt 1 (length all))
+
+    counted : is_counted p ≡ true
+    counted =
+        let e = of in
+        let n = number in
+        let m = count in
+        and_from (leb 1 p.head.part && leb p.head.part p.head.of) (eqb p.head.of 1 || has_sets p)
+        (and_from (leb 1 p.head.part) (leb p.head.part p.head.of) (le-leb 1 p.head.part (omega arith)) (le-leb p.head.part p.head.of (omega arith)))
+        has
+
+    -- alone it is never refused
+    alone : joined z.apex [] p.sets ≡ Ok (p.sets ++ [])
+    alone =
+        let parts : joint all ≡ joint a.front ++ (a.row ++ joint a.back) = ap joint a.whole ∙ joint_append a.front (a.row ∷ a.back) in
+        let g = good_middle z.apex (joint a.front) a.row (joint a.back) (subst (Good z.apex) parts good) in
+        joins z.apex [] p.sets [] (subst (Good z.apex) (sym (append-nil p.sets)) (subst (Good z.apex) (sym sets) g))
+
+    module _ (there : List Bool) (l : length there ≡ length all) where
+      its : Place there a.front a.back
+      its = place there a.front a.row a.back (l ∙ ap length a.whole)
+
+      -- its number, as its place has it
+      at : p.head.part ≡ suc (length its.before)
+      at = let n = number in let m = its.as_many in omega arith
+
+      marked_is : marked there p.head.part ≡ its.before ++ true ∷ its.after
+      marked_is = (λ i. marked (its.whole i) (at i)) ∙ marked_at its.before its.here its.after
+
+      marked_there : is_there (marked there p.head.part) p.head.part ≡ true
+      marked_there = (λ i. is_there (marked_is i) (at i)) ∙ there_at its.before true its.after
+
+      -- where it isn't there, its sets come between those that are
+      comes : is_there there p.head.part ≡ false → joined z.apex (present there all) p.sets ≡ Ok (present (marked there p.head.part) all)
+      comes h =
+          let front = present its.before a.front in
+          let back = present its.after a.back in
+          let missing : its.here ≡ false = sym (there_at its.before its.here its.after) ∙ (λ i. is_there (sym its.whole i) (sym at i)) ∙ h in
+          let old : present there all ≡ front ++ back =
+          (λ i. present (its.whole i) (a.whole i)) ∙ present_at its.before its.here its.after a.front a.row a.back its.as_many ∙ ap (λ b. front ++ (cond b a.row [] ++ back)) missing in
+          let new : present (marked there p.head.part) all ≡ front ++ (a.row ++ back) = (λ i. present (marked_is i) (a.whole i)) ∙ present_at its.before true its.after a.front a.row a.back its.as_many in
+          let g = subst (Good z.apex) new (present_good z.apex [] (marked there p.head.part) all good) in
+          (λ i. joined z.apex (old i) (sets i)) ∙ joins z.apex front a.row back g ∙ ap (λ xs. Ok xs) (sym new)
+
+  -- ---- what is there
+
+  pub record Going (j : Joining) : Type 0 where
+    pub apex : j.apex ≡ z.apex
+    pub serial : j.serial ≡ z.serial
+    pub moment_is : j.moment ≡ moment
+    pub times : j.times ≡ times_of z
+    pub as_many : length j.there ≡ length all
+    pub sets : j.sets ≡ present j.there all
+
+  belongs : (j : Joining) → Going j → (p : Part) → Located p → belongs_to j p ≡ true
+  belongs j g p a =
+      let serial = ap (λ (q : Part). q.head.serial) a.part_is ∙ sym g.serial in
+      let time = ap (λ (q : Part). q.head.moment) a.part_is ∙ sym g.moment_is in
+      let times = ap (λ (q : Part). q.head.times) a.part_is ∙ sym g.times in
+      and_from (eqb p.head.serial j.serial && eqb p.head.moment j.moment && same_times p.head.times j.times && eqb p.head.of (length j.there)) (is_counted p)
+      (and_from (eqb p.head.serial j.serial && eqb p.head.moment j.moment && same_times p.head.times j.times) (eqb p.head.of (length j.there))
+      (and_from (eqb p.head.serial j.serial && eqb p.head.moment j.moment) (same_times p.head.times j.times)
+      (and_from (eqb p.head.serial j.serial) (eqb p.head.moment j.moment) (eq-eqb p.head.serial j.serial serial) (eq-eqb p.head.moment j.moment time))
+      (same_so p.head.times j.times times))
+      (eq-eqb p.head.of (length j.there) (of p a ∙ sym g.as_many)))
+      (counted p a)
+
+  pub record Taken (j : Joining) (p : Part) : Type 0 where
+    pub result : Joining
+    pub is : take p j ≡ Ok result
+    pub going : Going result
+    pub there : is_there result.there p.head.part ≡ true
+    pub keeps : (n : ℕ) → is_there j.there n ≡ true → is_there result.there n ≡ true
+    pub only : (n : ℕ) → is_there result.there n ≡ true → (n ≡ p.head.part) ⊎ (is_there j.there n ≡ true)
+
+  taken : (j : Joining) → Going j → (p : Part) → Located p → Taken j p
+  unfolding take
+  taken j g p a = go (is_there j.there p.head.part) refl
+    where
+      again : Result Joining Fault
+      again = next (joined j.apex [] p.sets) (λ ss. Ok j)
+
+      anew : Result Joining Fault
+      anew = next (joined j.apex j.sets p.sets) (λ ss. Ok (with_part j p ss))
+
+      here : take p j ≡ cond (is_there j.there p.head.part) again anew
+      here = cond-true (belongs_to j p) (cond (is_there j.there p.head.part) again anew) (next (joined j.apex [] p.sets) (λ ss. Err BadTransfer)) (belongs j g p a)
+
+      go : (b : Bool) → is_there j.there p.head.part ≡ b → Taken j p
+      go true h = record {
+        result = j;
+        is = here ∙ cond-true (is_there j.there p.head.part) again anew h ∙ next_ok (joined j.apex [] p.sets) (p.sets ++ []) (λ ss. Ok j) (ap (λ x. joined x [] p.sets) g.apex ∙ alone p a);
+        going = g;
+        there = h;
+        keeps = λ n t. t;
+        only = λ n t. inr t;
+      }
+      go false h =
+          let ss = present (marked j.there p.head.part) all in
+          record {
+            result = with_part j p ss;
+            is =
+            here ∙ cond-false (is_there j.there p.head.part) again anew h
+            ∙ next_ok (joined j.apex j.sets p.sets) ss (λ ts. Ok (with_part j p ts)) ((λ i. joined (g.apex i) (g.sets i) p.sets) ∙ comes p a j.there g.as_many h);
+            going = record { apex = g.apex; serial = g.serial; moment_is = g.moment_is; times = g.times; as_many = marked_many j.there p.head.part ∙ g.as_many; sets = refl };
+            there = marked_there p a j.there g.as_many;
+            keeps = marked_keeps j.there p.head.part;
+            only = marked_only j.there p.head.part;
+          }

@@ -71,6 +71,10 @@ abbrev pub joint : List (List Set) → List Set
 joint [] = []
 joint (r ∷ rs) = r ++ joint rs
 
+pub joint_append : (rs ts : List (List Set)) → joint (rs ++ ts) ≡ joint rs ++ joint ts
+joint_append [] ts = refl
+joint_append (r ∷ rs) ts = ap (λ xs. r ++ xs) (joint_append rs ts) ∙ sym (append_assoc r (joint rs) (joint ts))
+
 rows_joint : (row : List Set) (ss : List Set) → joint (rows_behind row ss) ≡ row ++ ss
 rows_joint row [] = ap joint (rows_end row)
 rows_joint row (s ∷ ss) =
