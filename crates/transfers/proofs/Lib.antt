@@ -6,3 +6,4 @@ mod Orders
 mod Inserting
 mod Present
 mod Rejoining
+mod Taking

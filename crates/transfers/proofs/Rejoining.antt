@@ -13,7 +13,8 @@ use Rattle.wire.specs.Parts.{Part, sets_keep}
 use Rattle.wire.specs.Shapes.{Times}
 use Rattle.transfers.specs.Splitting.{rows, times_of, part_from, parts_from, split, SplitLaws}
 use Rattle.transfers.specs.Joining.{joined, Joining, same_times, has_sets, is_counted, belongs_to, is_there, marked, none_there, is_complete, with_part, begun, begin, take, zone_in, take_all, join}
-use Rattle.transfers.proofs.Rows.{joint, joint_append, rows_whole}
+use Rattle.transfers.specs.TransferLaws.{Rejoined}
+use Rattle.transfers.proofs.Rows.{joint, joint_append, rows_many, rows_whole}
 use Rattle.transfers.proofs.Orders.{Good, good_from, good_middle}
 use Rattle.transfers.proofs.Inserting.{joins}
 use Rattle.transfers.proofs.Present.{present, Place, place, there_at, marked_at, marked_many, marked_keeps, marked_only, none_is_there, none_many, none_present, complete_from, complete_at, complete_present, present_at, present_good}
@@ -53,6 +54,12 @@ same_so s t e =
     and_from (eqb s.negative t.negative && eqb s.refresh t.refresh) (eqb s.expire t.expire)
     (and_from (eqb s.negative t.negative) (eqb s.refresh t.refresh) (eq-eqb s.negative t.negative (ap (λ (x : Times). x.negative) e)) (eq-eqb s.refresh t.refresh (ap (λ (x : Times). x.refresh) e)))
     (eq-eqb s.expire t.expire (ap (λ (x : Times). x.expire) e))
+
+same_row : {A : Type 0} (xs ys : List A) (x y : A) (vs ws : List A) → xs ++ x ∷ vs ≡ ys ++ y ∷ ws → length xs ≡ length ys → x ≡ y
+same_row [] [] x y vs ws e l = cc
+same_row [] (b ∷ ys) x y vs ws e l = absurd (omega arith)
+same_row (a ∷ xs) [] x y vs ws e l = absurd (omega arith)
+same_row (a ∷ xs) (b ∷ ys) x y vs ws e l = let f : xs ++ x ∷ vs ≡ ys ++ y ∷ ws = cc in same_row xs ys x y vs ws f (omega arith)
 
 next_ok : {A B : Type 0} (r : Result A Fault) (a : A) (f : A → Result B Fault) → r ≡ Ok a → next r f ≡ f a
 unfolding next
@@ -199,10 +206,132 @@ module _ (laws : SplitLaws) (z : Zone) (id moment : ℕ) (o : sorted z.sets ≡ 
           record {
             result = with_part j p ss;
             is =
-            here ∙ cond-false (is_there j.there p.head.part) again anew h
-            ∙ next_ok (joined j.apex j.sets p.sets) ss (λ ts. Ok (with_part j p ts)) ((λ i. joined (g.apex i) (g.sets i) p.sets) ∙ comes p a j.there g.as_many h);
+                here ∙ cond-false (is_there j.there p.head.part) again anew h
+                ∙ next_ok (joined j.apex j.sets p.sets) ss (λ ts. Ok (with_part j p ts)) ((λ i. joined (g.apex i) (g.sets i) p.sets) ∙ comes p a j.there g.as_many h);
             going = record { apex = g.apex; serial = g.serial; moment_is = g.moment_is; times = g.times; as_many = marked_many j.there p.head.part ∙ g.as_many; sets = refl };
             there = marked_there p a j.there g.as_many;
             keeps = marked_keeps j.there p.head.part;
             only = marked_only j.there p.head.part;
           }
+
+  -- ---- one part after the other
+
+  pub record Gone (j : Joining) (ps : List Part) : Type 0 where
+    pub result : Joining
+    pub is : take_all ps j ≡ Ok result
+    pub going : Going result
+    pub there : (q : Part) → Memᴰ q ps → is_there result.there q.head.part ≡ true
+    pub keeps : (n : ℕ) → is_there j.there n ≡ true → is_there result.there n ≡ true
+    pub only : (n : ℕ) → is_there result.there n ≡ true → ((q : Part) × Memᴰ q ps × (n ≡ q.head.part)) ⊎ (is_there j.there n ≡ true)
+
+  gone : (ps : List Part) (j : Joining) → Going j → ((q : Part) → Memᴰ q ps → Memᴰ q (split z id moment)) → Gone j ps
+  unfolding take_all
+  gone [] j g h = record { result = j; is = refl; going = g; there = λ q m. absurd (Memᴰ.not-nil m); keeps = λ n t. t; only = λ n t. inr t }
+  gone (p ∷ ps) j g h =
+      let t = taken j g p (located p (h p (Memᴰ.head refl))) in
+      let r = gone ps t.result t.going (λ q m. h q (Memᴰ.tail m)) in
+      record {
+        result = r.result;
+        is = next_ok (take p j) t.result (λ k. take_all ps k) t.is ∙ r.is;
+        going = r.going;
+        there = λ q m. ⊎_elim (λ e. r.keeps q.head.part (subst (λ x. is_there t.result.there x.head.part ≡ true) (sym e) t.there)) (λ n. r.there q n) (Memᴰ.cases_cons m);
+        keeps = λ n x. r.keeps n (t.keeps n x);
+        only = λ n x. ⊎_elim (λ f. inl (f.0, Memᴰ.tail f.1, f.2)) (λ y. ⊎_elim (λ e. inl (p, Memᴰ.head refl, e)) (λ w. inr w) (t.only n y)) (r.only n x);
+      }
+
+  -- ---- the first
+
+  pub record Started (p : Part) : Type 0 where
+    pub result : Joining
+    pub is : begin z.apex p ≡ Ok result
+    pub going : Going result
+    pub there : is_there result.there p.head.part ≡ true
+    pub only : (n : ℕ) → is_there result.there n ≡ true → n ≡ p.head.part
+
+  not_many : length all ≤ 4096
+  not_many =
+      let few = (good_from z.apex z.sets o v).few in
+      let m = rows_many [] z.sets in
+      ⊎_elim (λ (l : 0 < length z.sets). let h = (laws.few z keep).1 (omega arith) in omega arith) (λ (l : length z.sets ≤ 0). omega arith) (cases_lt 0 (length z.sets))
+
+  started : (p : Part) → Located p → Started p
+  unfolding begin
+  started p a =
+      let there = none_there p.head.of in
+      let l : length there ≡ length all = none_many p.head.of ∙ of p a in
+      let ss = present (marked there p.head.part) all in
+      let f = λ (ts : List Set). cond (ltb 4096 p.head.of) (Err TooMuch) (cond (is_counted p) (Ok (with_part (begun z.apex p) p ts)) (Err BadTransfer)) in
+      let few = not_many in
+      let e = of p a in
+      let none : is_there there p.head.part ≡ false = false_from_ne_true (is_there there p.head.part) (none_is_there p.head.of p.head.part) in
+      record {
+        result = with_part (begun z.apex p) p ss;
+        is =
+            next_ok (joined z.apex [] p.sets) ss f (ap (λ xs. joined z.apex xs p.sets) (sym (none_present p.head.of all)) ∙ comes p a there l none)
+            ∙ cond-false (ltb 4096 p.head.of) (Err TooMuch) (cond (is_counted p) (Ok (with_part (begun z.apex p) p ss)) (Err BadTransfer)) (le-ltb 4096 p.head.of (omega arith))
+            ∙ cond-true (is_counted p) (Ok (with_part (begun z.apex p) p ss)) (Err BadTransfer) (counted p a);
+        going = record {
+          apex = refl;
+          serial = ap (λ (q : Part). q.head.serial) a.part_is;
+          moment_is = ap (λ (q : Part). q.head.moment) a.part_is;
+          times = ap (λ (q : Part). q.head.times) a.part_is;
+          as_many = marked_many there p.head.part ∙ l;
+          sets = refl;
+        };
+        there = marked_there p a there l;
+        only = λ n t. ⊎_elim (λ e. e) (λ w. absurd (none_is_there p.head.of n w)) (marked_only there p.head.part n t);
+      }
+
+  -- ---- all of them
+
+  -- of each number there is one
+  same_part : (p q : Part) → Located p → Located q → p.head.part ≡ q.head.part → p ≡ q
+  same_part p q a b e =
+      let n = number p a in
+      let m = number q b in
+      let level : length a.front ≡ length b.front = omega arith in
+      let row = same_row a.front b.front a.row b.row a.back b.back (sym a.whole ∙ b.whole) level in
+      a.part_is ∙ (λ i. part_from z id moment (length all) (1 + level i) (row i)) ∙ sym b.part_is
+
+  module _ (p : Part) (ps : List Part) (h : (q : Part) → Memᴰ q (p ∷ ps) → Memᴰ q (split z id moment)) (j : Joining)
+      (g : Going j) (came : (q : Part) → Memᴰ q (p ∷ ps) → is_there j.there q.head.part ≡ true)
+      (only : (n : ℕ) → is_there j.there n ≡ true → (q : Part) × Memᴰ q (p ∷ ps) × (n ≡ q.head.part)) where
+    whole : is_complete j.there ≡ true → zone_in j ≡ z
+    whole c =
+        let ss = g.sets ∙ complete_present j.there all g.as_many c ∙ rows_whole z.sets in
+        let t = g.times in
+        λ i. record { apex = g.apex i; serial = g.serial i; negative = (t i).negative; refresh = (t i).refresh; expire = (t i).expire; sets = ss i }
+
+    all_came : ((q : Part) → Memᴰ q (split z id moment) → Memᴰ q (p ∷ ps)) → is_complete j.there ≡ true
+    all_came every =
+        complete_from j.there
+        (λ i l.
+        let m = g.as_many in
+        let n = numbered z id moment (length all) 1 all i (omega arith) in
+        let q = part_from z id moment (length all) (1 + i) n.0 in
+        let e : 1 + i ≡ suc i = omega arith in
+        subst (λ x. is_there j.there x ≡ true) e (came q (every q n.1)))
+
+    only_all : is_complete j.there ≡ true → (q : Part) → Memᴰ q (split z id moment) → Memᴰ q (p ∷ ps)
+    only_all c q m =
+        let a = located q m in
+        let n = number q a in
+        let f = count q a in
+        let l = g.as_many in
+        let t = subst (λ x. is_there j.there x ≡ true) (sym n) (complete_at j.there (length a.front) (omega arith) c) in
+        let w = only q.head.part t in
+        subst (λ x. Memᴰ x (p ∷ ps)) (sym (same_part q w.0 a (located w.0 (h w.0 w.1)) w.2)) w.1
+
+    pub rejoined_as : Rejoined z id moment (p ∷ ps)
+    rejoined_as = record { result = j; complete_is_zone = whole; moment_is = g.moment_is; all_came = all_came; only_all = only_all }
+
+  pub rejoins : (p : Part) (ps : List Part) → ((q : Part) → Memᴰ q (p ∷ ps) → Memᴰ q (split z id moment)) → (r : Rejoined z id moment (p ∷ ps)) × (join z.apex p ps ≡ Ok r.result)
+  unfolding rejoined_as
+  rejoins p ps h =
+      let s = started p (located p (h p (Memᴰ.head refl))) in
+      let r = gone ps s.result s.going (λ q m. h q (Memᴰ.tail m)) in (
+        rejoined_as p ps h r.result r.going
+            (λ q m. ⊎_elim (λ e. r.keeps q.head.part (subst (λ x. is_there s.result.there x.head.part ≡ true) (sym e) s.there)) (λ n. r.there q n) (Memᴰ.cases_cons m))
+            (λ n t. ⊎_elim (λ f. (f.0, Memᴰ.tail f.1, f.2)) (λ w. (p, Memᴰ.head refl, s.only n w)) (r.only n t)),
+        next_ok (begin z.apex p) s.result (λ j. take_all ps j) s.is ∙ r.is,
+      )

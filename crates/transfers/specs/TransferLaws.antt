@@ -1,12 +1,12 @@
 -- What holds of splitting and putting together.
-use Rattle.std.specs.Prelude.{◌≡◌, ℕ, ◌⊎◌, true, List, ◌∷◌, length, Ok}
+use Rattle.std.specs.Prelude.{◌≡◌, ℕ, ◌⊎◌, true, false, List, ◌∷◌, length, Ok}
 use mathlib.Core.List.{Memᴰ}
 use Rattle.meaning.specs.Model.{Set, Zone}
 use Rattle.zones.specs.Sorted.{sorted}
 use Rattle.zones.specs.Valid.{valid}
 use Rattle.wire.specs.Parts.{Part, sets_keep}
 use Rattle.transfers.specs.Splitting.{split}
-use Rattle.transfers.specs.Joining.{Joining, begin, take, join, is_complete, zone_in}
+use Rattle.transfers.specs.Joining.{Joining, is_there, is_complete, begin, take, zone_in, join}
 
 -- of the same version of a zone, cut into as many parts
 pub record SameVersion (j k : Joining) : Type 0 where
@@ -23,12 +23,13 @@ pub record OfVersion (j : Joining) (p : Part) : Type 0 where
   pub times : p.head.times ≡ j.times
   pub of : p.head.of ≡ length j.there
 
--- what is there is what the parts of this zone's transfer brought that came so far; once all came it is the zone
+-- where parts of this zone's transfer came, nothing else being brought, all came exactly where it is complete, and then it is the zone
 pub record Rejoined (z : Zone) (id moment : ℕ) (came : List Part) : Type 0 where
   pub result : Joining
   pub complete_is_zone : is_complete result.there ≡ true → zone_in result ≡ z
   pub moment_is : result.moment ≡ moment
   pub all_came : ((p : Part) → Memᴰ p (split z id moment) → Memᴰ p came) → is_complete result.there ≡ true
+  pub only_all : is_complete result.there ≡ true → (p : Part) → Memᴰ p (split z id moment) → Memᴰ p came
 
 pub record TransferLaws : Type 0 where
   -- parts of a zone in any order, repeated or not, are never refused, and make the zone once all are there
@@ -41,3 +42,8 @@ pub record TransferLaws : Type 0 where
   pub first_version : (apex : List (List ℕ)) (p : Part) (j : Joining) → begin apex p ≡ Ok j → (j.apex ≡ apex) × OfVersion j p
   -- every set that is there stood there before, or came with the part
   pub said : (p : Part) (j k : Joining) (s : Set) → take p j ≡ Ok k → Memᴰ s k.sets → Memᴰ s j.sets ⊎ Memᴰ s p.sets
+  -- what stood there stays, and a part that wasn't there brings all its sets
+  pub kept : (p : Part) (j k : Joining) (s : Set) → take p j ≡ Ok k → Memᴰ s j.sets → Memᴰ s k.sets
+  pub brought : (p : Part) (j k : Joining) (s : Set) → take p j ≡ Ok k → is_there j.there p.head.part ≡ false → Memᴰ s p.sets → Memᴰ s k.sets
+  -- the first part brings its sets, and no others
+  pub first_said : (apex : List (List ℕ)) (p : Part) (j : Joining) (s : Set) → begin apex p ≡ Ok j → (Memᴰ s j.sets → Memᴰ s p.sets) × (Memᴰ s p.sets → Memᴰ s j.sets)

@@ -2,6 +2,7 @@
 #![tactic(auto)]
 
 ghost use Rattle.transfers.specs.Splitting.{SplitLaws};
+ghost use Rattle.transfers.specs.TransferLaws.{TransferLaws};
 
 mod splitting;
 
@@ -11,4 +12,10 @@ pub fn split_laws()
     ensures { SplitLaws }
 {
     wire::packet_laws();
+}
+
+pub fn transfer_laws()
+    ensures { TransferLaws }
+{
+    split_laws();
 }
