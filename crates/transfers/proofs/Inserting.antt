@@ -2,6 +2,7 @@
 use Rattle.std.proofs.Common.{◌≡◌, ℕ, ◌+◌, ◌<◌, ◌≤◌, Bool, true, false, cond, not, ◌&&◌, ◌||◌, ltb, List, [], ◌∷◌, ◌++◌, length, is_some, Some, Ok, Err, sym, refl, ap, ◌∙◌, subst, ⊎_elim, append_assoc, arith, length-append}
 use mathlib.Core.List.Memᴰ
 use mathlib.Core.List.{Memᴰ}
+use Rattle.std.specs.List.{list_any}
 use Rattle.std.proofs.lemmas.Bool.{cond-true, cond-false, and_parts, or_from, not-true, not_from_true, le-ltb}
 use Rattle.names.specs.declared.fault.Fault.TheVariants.{Misplaced, Conflict, TooMuch}
 use Rattle.names.specs.Order.{within}
@@ -9,30 +10,19 @@ use Rattle.meaning.specs.Model.{delegates, Set}
 use Rattle.meaning.specs.Says.{same, is_exactly, find}
 use Rattle.zones.specs.Sorted.{is_before, sorted}
 use Rattle.zones.specs.Valid.{clashes, no_clash, belongs, insert_set}
+use Rattle.zones.proofs.Insert.{insert_on, clash_turned}
 use Rattle.transfers.specs.Joining.{stands, any_outside, any_stands, any_twice, any_cut_at, any_clash, insert_all, joined}
-use Rattle.transfers.proofs.Orders.{Before, apart, not_both, sorted_tail, behind, across, sorted_back, clash_turned, no_clash_with, clash_across, belongs_in, Good, good_middle}
+use Rattle.transfers.proofs.Searched.{any_found}
+use Rattle.transfers.proofs.Orders.{Before, apart, not_both, sorted_tail, behind, across, sorted_back, no_clash_with, clash_across, belongs_in, Good, good_middle}
 
 -- ---- nothing speaks against them
 
-none_found : (test : Set → Bool) (ss : List Set) → ((t : Set) → Memᴰ t ss → test t ≡ false) → is_some (find test ss) ≡ false
-unfolding find
-none_found test [] h = refl
-none_found test (t ∷ ss) h = ap is_some (cond-false (test t) (Some t) (find test ss) (h t (Memᴰ.head refl))) ∙ none_found test ss (λ u m. h u (Memᴰ.tail m))
+none_any : (test : Set → Bool) (ss : List Set) → ((s : Set) → Memᴰ s ss → test s ≡ false) → list_any test ss ≡ false
+none_any test [] h = refl
+none_any test (s ∷ ss) h = or_from (test s) (list_any test ss) (h s (Memᴰ.head refl)) (none_any test ss (λ t m. h t (Memᴰ.tail m)))
 
-module _ (apex : List (List ℕ)) where
-  none_outside : (ss : List Set) → ((s : Set) → Memᴰ s ss → belongs apex s ≡ true) → any_outside apex ss ≡ false
-  none_outside [] h = refl
-  none_outside (s ∷ ss) h =
-      or_from (not (within apex s.name)) (any_outside apex ss)
-      (not_from_true (within apex s.name) (and_parts (within apex s.name) (not (delegates s.kind && same s.name apex)) (h s (Memᴰ.head refl))).0)
-      (none_outside ss (λ t m. h t (Memᴰ.tail m)))
-
-  none_cut_at : (ss : List Set) → ((s : Set) → Memᴰ s ss → belongs apex s ≡ true) → any_cut_at apex ss ≡ false
-  none_cut_at [] h = refl
-  none_cut_at (s ∷ ss) h =
-      or_from (delegates s.kind && same s.name apex) (any_cut_at apex ss)
-      (not-true (delegates s.kind && same s.name apex) (and_parts (within apex s.name) (not (delegates s.kind && same s.name apex)) (h s (Memᴰ.head refl))).1)
-      (none_cut_at ss (λ t m. h t (Memᴰ.tail m)))
+none_found : (test : Set → Bool) (ss : List Set) → ((s : Set) → Memᴰ s ss → test s ≡ false) → is_some (find test ss) ≡ false
+none_found test ss h = sym (any_found test ss) ∙ none_any test ss h
 
 none_twice : (ss : List Set) → sorted ss ≡ true → any_twice ss ≡ false
 none_twice [] o = refl
@@ -41,20 +31,7 @@ none_twice (s ∷ ss) o =
     (none_found (is_exactly s.name s.kind) ss (λ t m. (apart s t (behind s ss o t m)).0))
     (none_twice ss (sorted_tail s ss o))
 
-module _ (old : List Set) where
-  none_stand : (new : List Set) → ((s t : Set) → Memᴰ s new → Memᴰ t old → is_exactly s.name s.kind t ≡ false) → any_stands old new ≡ false
-  none_stand [] h = refl
-  none_stand (s ∷ ss) h = or_from (stands old s) (any_stands old ss) (none_found (is_exactly s.name s.kind) old (λ t m. h s t (Memᴰ.head refl) m)) (none_stand ss (λ u t m n. h u t (Memᴰ.tail m) n))
-
-  none_clash : (new : List Set) → ((s : Set) → Memᴰ s new → clashes s old ≡ false) → any_clash old new ≡ false
-  none_clash [] h = refl
-  none_clash (s ∷ ss) h = or_from (clashes s old) (any_clash old ss) (h s (Memᴰ.head refl)) (none_clash ss (λ t m. h t (Memᴰ.tail m)))
-
 -- ---- at their place
-
-insert_on : (s t : Set) (ss : List Set) → Before t s → insert_set s (t ∷ ss) ≡ t ∷ insert_set s ss
-unfolding insert_set
-insert_on s t ss h = cond-true (is_before s.name s.kind t) (t ∷ insert_set s ss) (s ∷ t ∷ ss) h
 
 insert_first : (s : Set) (ss : List Set) → ((t : Set) → Memᴰ t ss → Before s t) → insert_set s ss ≡ s ∷ ss
 unfolding insert_set
@@ -78,8 +55,14 @@ all_between xs (s ∷ new) ys o =
 -- ---- all of it
 
 module _ (apex : List (List ℕ)) (xs new ys : List Set) (g : Good apex (xs ++ (new ++ ys))) where
-  inside : (s : Set) → Memᴰ s new → belongs apex s ≡ true
-  inside s m = belongs_in apex (xs ++ (new ++ ys)) g.inside s (Memᴰ.append_right xs (Memᴰ.append_left ys m))
+  inside : (s : Set) → Memᴰ s new → (within apex s.name ≡ true) × (not (delegates s.kind && same s.name apex) ≡ true)
+  inside s m = and_parts (within apex s.name) (not (delegates s.kind && same s.name apex)) (belongs_in apex (xs ++ (new ++ ys)) g.inside s (Memᴰ.append_right xs (Memᴰ.append_left ys m)))
+
+  none_outside : any_outside apex new ≡ false
+  none_outside = none_any (λ s. not (within apex s.name)) new (λ s m. not_from_true (within apex s.name) (inside s m).0)
+
+  none_cut_at : any_cut_at apex new ≡ false
+  none_cut_at = none_any (λ s. delegates s.kind && same s.name apex) new (λ s m. not-true (delegates s.kind && same s.name apex) (inside s m).1)
 
   alone : Good apex new
   alone = good_middle apex xs new ys g
@@ -91,6 +74,9 @@ module _ (apex : List (List ℕ)) (xs new ys : List Set) (g : Good apex (xs ++ (
       (λ a. (apart t s (across xs (new ++ ys) g.ordered t s a (Memᴰ.append_left ys m))).1)
       (λ b. (apart s t (across new ys (sorted_back xs (new ++ ys) g.ordered) s t m b)).0)
       (Memᴰ.append_cases xs n)
+
+  none_stand : any_stands (xs ++ ys) new ≡ false
+  none_stand = none_any (stands (xs ++ ys)) new (λ s m. none_found (is_exactly s.name s.kind) (xs ++ ys) (λ t n. other s t m n))
 
   clear : (s : Set) → Memᴰ s new → clashes s (xs ++ ys) ≡ false
   clear s m =
@@ -112,8 +98,8 @@ module _ (apex : List (List ℕ)) (xs new ys : List Set) (g : Good apex (xs ++ (
   pub joins : joined apex (xs ++ ys) new ≡ Ok (xs ++ (new ++ ys))
   unfolding joined
   joins =
-      let o = or_from (any_outside apex new || any_twice new) (any_stands (xs ++ ys) new) (or_from (any_outside apex new) (any_twice new) (none_outside apex new inside) (none_twice new alone.ordered)) (none_stand (xs ++ ys) new other) in
-      let c = or_from (any_cut_at apex new || not (no_clash new)) (any_clash (xs ++ ys) new) (or_from (any_cut_at apex new) (not (no_clash new)) (none_cut_at apex new inside) (not_from_true (no_clash new) alone.alone)) (none_clash (xs ++ ys) new clear) in
+      let o = or_from (any_outside apex new || any_twice new) (any_stands (xs ++ ys) new) (or_from (any_outside apex new) (any_twice new) none_outside (none_twice new alone.ordered)) none_stand in
+      let c = or_from (any_cut_at apex new || not (no_clash new)) (any_clash (xs ++ ys) new) (or_from (any_cut_at apex new) (not (no_clash new)) none_cut_at (not_from_true (no_clash new) alone.alone)) (none_any (λ s. clashes s (xs ++ ys)) new clear) in
       let f = fits in
       (λ i. cond (o i) (Err Misplaced) (cond (c i) (Err Conflict) (cond (f i) (Err TooMuch) (Ok (insert_all new (xs ++ ys))))))
       ∙ ap (λ zs. Ok zs) (all_between xs new ys g.ordered)

@@ -98,24 +98,6 @@ sorted_without (x ∷ xs) ys zs o =
 
 -- ---- clashes
 
-same_turned : (a b : List (List ℕ)) → same a b ≡ false → same b a ≡ false
-same_turned a b h = false_from_ne_true (same b a) (λ e. true≢false (sym (so_same a b (sym (same_so b a e))) ∙ h))
-
-both_false : (x y : Bool) → y ≡ false → (x && y) ≡ false
-both_false true y e = e
-both_false false y e = refl
-
-or_turned : (a b : Bool) → (a || b) ≡ false → (b || a) ≡ false
-or_turned a b h = let p = or_parts a b h in or_from b a p.1 p.0
-
-pub clash_turned : (s t : Set) → clash s t ≡ false → clash t s ≡ false
-clash_turned s t h = go (same s.name t.name) refl
-  where
-    go : (c : Bool) → same s.name t.name ≡ c → clash t s ≡ false
-    go false e = ap (λ x. x && (aliases t.kind || aliases s.kind)) (same_turned s.name t.name e)
-    go true e =
-        both_false (same t.name s.name) (aliases t.kind || aliases s.kind) (or_turned (aliases s.kind) (aliases t.kind) (sym (ap (λ x. x && (aliases s.kind || aliases t.kind)) e) ∙ h))
-
 pub clash_with : (s : Set) (ss : List Set) → clashes s ss ≡ false → (t : Set) → Memᴰ t ss → clash s t ≡ false
 clash_with s [] h t m = absurd (Memᴰ.not-nil m)
 clash_with s (u ∷ ss) h t m =

@@ -1,13 +1,13 @@
 -- Parts of a transfer: rows behind their heads.
-use Rattle.std.proofs.Common.{◌≡◌, ℕ, ◌+◌, ◌<◌, ◌≤◌, Bool, true, ◌&&◌, leb, ltb, List, [], ◌∷◌, ◌++◌, length, sym, refl, ap, ◌∙◌, subst, ⊎_elim, arith, length-append}
+use Rattle.std.proofs.Common.{◌≡◌, ℕ, ◌+◌, ◌<◌, ◌≤◌, Bool, true, ◌&&◌, eqb, leb, ltb, List, [], ◌∷◌, ◌++◌, length, sym, refl, ap, ◌∙◌, subst, ⊎_elim, arith, length-append}
 use mathlib.Core.List.Memᴰ
 use mathlib.Core.List.{Memᴰ}
-use Rattle.std.proofs.lemmas.Bool.{and_parts, and_from, le-leb, lt-ltb}
+use Rattle.std.proofs.lemmas.Bool.{and_parts, and_from, or_left, le-leb, lt-ltb}
 use Rattle.meaning.specs.Model.{is_serial, Set, Zone}
 use Rattle.meaning.specs.Transfer.{all_transferred}
 use Rattle.meaning.proofs.Carried.{length_none}
 use Rattle.wire.specs.Laws.{PacketLaws}
-use Rattle.wire.specs.Parts.{head_bytes, part_bytes, times_keep, head_keeps, set_keeps, sets_keep, part_keeps}
+use Rattle.wire.specs.Parts.{head_bytes, part_bytes, times_keep, head_keeps, set_keeps, sets_keep, sets_belong, part_keeps}
 use Rattle.wire.specs.Shapes.{Head}
 use Rattle.transfers.specs.Splitting.{room, rows_behind, rows, part_from, parts_from, split, all_sets, all_keep, SplitLaws}
 use Rattle.transfers.proofs.Rows.{rows_on, rows_end, rows_many, rows_some, joint, rows_whole, each_row, full}
@@ -87,15 +87,15 @@ module _ (laws : PacketLaws) where
   version : (h : Head) → head_keeps h ≡ true → version_keeps h ≡ true
   version h k = (and_parts (version_keeps h) (ltb h.part 65536) (and_parts (version_keeps h && ltb h.part 65536) (ltb h.of 65536) k).0).0
 
-  module _ (z : Zone) (id moment of : ℕ) (v : version_keeps (part_from z id moment 1 1 []).head ≡ true) (m : of < 65536) where
+  module _ (z : Zone) (id moment of : ℕ) (v : version_keeps (part_from z id moment 1 1 []).head ≡ true) (some : 1 ≤ of) (m : of < 65536) where
     one_keeps : (n : ℕ) (r : List Set) → n < 65536 → Fits r → part_keeps (part_from z id moment of n r) ≡ true
     unfolding Fits
     one_keeps n r l f =
         let h = (part_from z id moment of n r).head in
         let long = part_long h r in
         let short = f.1 in
-        and_from (head_keeps h && sets_keep r) (leb (length (part_bytes (part_from z id moment of n r))) 1200)
-        (and_from (head_keeps h) (sets_keep r) (counted h v l m) f.0)
+        and_from (head_keeps h && sets_keep r && sets_belong h r) (leb (length (part_bytes (part_from z id moment of n r))) 1200)
+        (and_from (head_keeps h && sets_keep r) (sets_belong h r) (and_from (head_keeps h) (sets_keep r) (counted h v l m) f.0) (or_left (leb 1 of) (eqb (length r) 0) (le-leb 1 of some)))
         (le-leb (length (part_bytes (part_from z id moment of n r))) 1200 (omega arith))
 
     parts_keep : (n : ℕ) (rs : List (List Set)) → n + length rs ≤ 65536 → ((r : List Set) → Memᴰ r rs → Fits r) → all_keep (parts_from z id moment of n rs) ≡ true
@@ -108,7 +108,7 @@ module _ (laws : PacketLaws) where
   fits : (z : Zone) (id moment : ℕ) → head_keeps (part_from z id moment 1 1 []).head ≡ true → sets_keep z.sets ≡ true → length z.sets ≤ 4096 → all_keep (split z id moment) ≡ true
   fits z id moment h k l =
       let m = rows_many [] z.sets in
-      parts_keep z id moment (length (rows z.sets)) (version (part_from z id moment 1 1 []).head h) (omega arith) 1 (rows z.sets) (omega arith) (rows_fit z.sets k)
+      parts_keep z id moment (length (rows z.sets)) (version (part_from z id moment 1 1 []).head h) (rows_some [] z.sets) (omega arith) 1 (rows z.sets) (omega arith) (rows_fit z.sets k)
 
   whole_from : (z : Zone) (id moment of n : ℕ) (rs : List (List Set)) → all_sets (parts_from z id moment of n rs) ≡ joint rs
   unfolding all_sets parts_from

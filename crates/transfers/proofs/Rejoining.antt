@@ -8,7 +8,7 @@ use Rattle.names.specs.declared.fault.Fault.TheVariants.{TooMuch, BadTransfer}
 use Rattle.meaning.specs.Model.{Set, Zone}
 use Rattle.zones.specs.Sorted.{sorted}
 use Rattle.zones.specs.Valid.{valid}
-use Rattle.wire.specs.Packets.{next}
+use Rattle.wire.specs.Cuts.{next}
 use Rattle.wire.specs.Parts.{Part, sets_keep}
 use Rattle.wire.specs.Shapes.{Times}
 use Rattle.transfers.specs.Splitting.{rows, times_of, part_from, parts_from, split, SplitLaws}

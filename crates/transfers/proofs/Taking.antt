@@ -8,7 +8,7 @@ use Rattle.names.specs.declared.fault.Fault.TheVariants.{Misplaced, Conflict, To
 use Rattle.meaning.specs.Model.{Set}
 use Rattle.zones.specs.Sorted.{is_before}
 use Rattle.zones.specs.Valid.{no_clash, insert_set}
-use Rattle.wire.specs.Packets.{next}
+use Rattle.wire.specs.Cuts.{next}
 use Rattle.wire.specs.Parts.{Part}
 use Rattle.wire.specs.Shapes.{Times}
 use Rattle.transfers.specs.Joining.{any_outside, any_stands, any_twice, any_cut_at, any_clash, insert_all, joined, Joining, same_times, is_counted, belongs_to, is_there, marked, none_there, with_part, begun, begin, take}

@@ -1,14 +1,15 @@
 -- How parts of a transfer are put together to a zone, whatever the order in which they come. Assumes nothing.
-use Rattle.std.specs.Prelude.{ℕ, zero, suc, ◌+◌, Bool, true, false, cond, not, ◌&&◌, ◌||◌, List, [], ◌∷◌, length, is_some, Ok, Err, Result, ◌==◌, nat_le, nat_lt}
+use Rattle.std.specs.Prelude.{◌≡◌, ℕ, zero, suc, ◌+◌, Bool, true, false, cond, not, ◌&&◌, ◌||◌, List, [], ◌∷◌, length, is_some, Ok, Err, Result, ◌==◌, nat_le, nat_lt}
+use Rattle.std.specs.List.{list_any}
 use Rattle.names.specs.declared.fault.Fault.{Fault}
 use Rattle.names.specs.declared.fault.Fault.TheVariants.{Misplaced, Conflict, TooMuch, BadTransfer}
 use Rattle.names.specs.Order.{within}
 use Rattle.meaning.specs.Model.{delegates, Set, Zone}
 use Rattle.meaning.specs.Says.{same, is_exactly, find}
-use Rattle.zones.specs.Valid.{clashes, no_clash, insert_set}
-use Rattle.wire.specs.Packets.{next}
+use Rattle.zones.specs.Valid.{clashes, no_clash, insert_set, added}
+use Rattle.wire.specs.Cuts.{next}
 use Rattle.wire.specs.Parts.{Part}
-use Rattle.wire.specs.Shapes.{Times}
+use Rattle.wire.specs.Shapes.{Times, Head}
 
 -- ---- sets beside those that are there
 
@@ -17,24 +18,20 @@ abbrev pub stands : List Set → Set → Bool
 stands old s = is_some (find (is_exactly s.name s.kind) old)
 
 abbrev pub any_outside : List (List ℕ) → List Set → Bool
-any_outside apex [] = false
-any_outside apex (s ∷ ss) = not (within apex s.name) || any_outside apex ss
+any_outside apex = list_any (λ s. not (within apex s.name))
 
 abbrev pub any_stands : List Set → List Set → Bool
-any_stands old [] = false
-any_stands old (s ∷ ss) = stands old s || any_stands old ss
+any_stands old = list_any (stands old)
 
 abbrev pub any_twice : List Set → Bool
 any_twice [] = false
 any_twice (s ∷ ss) = stands ss s || any_twice ss
 
 abbrev pub any_cut_at : List (List ℕ) → List Set → Bool
-any_cut_at apex [] = false
-any_cut_at apex (s ∷ ss) = delegates s.kind && same s.name apex || any_cut_at apex ss
+any_cut_at apex = list_any (λ s. delegates s.kind && same s.name apex)
 
 abbrev pub any_clash : List Set → List Set → Bool
-any_clash old [] = false
-any_clash old (s ∷ ss) = clashes s old || any_clash old ss
+any_clash old = list_any (λ s. clashes s old)
 
 unfoldable pub insert_all : List Set → List Set → List Set
 insert_all [] old = old
@@ -46,6 +43,11 @@ joined apex old new =
     cond (any_outside apex new || any_twice new || any_stands old new) (Err Misplaced)
     (cond (any_cut_at apex new || not (no_clash new) || any_clash old new) (Err Conflict)
     (cond (nat_lt 4096 (length old + length new)) (Err TooMuch) (Ok (insert_all new old))))
+
+-- the same one by one, as a zone takes them
+unfoldable pub added_all : List (List ℕ) → List Set → List Set → Result (List Set) Fault
+added_all apex old [] = Ok old
+added_all apex old (s ∷ ss) = next (added apex old s) (λ more. added_all apex more ss)
 
 -- ---- a transfer under way
 
@@ -94,6 +96,11 @@ none_there (suc n) = false ∷ none_there n
 abbrev pub is_complete : List Bool → Bool
 is_complete [] = true
 is_complete (b ∷ bs) = b && is_complete bs
+
+-- how many are missing
+abbrev pub absent : List Bool → ℕ
+absent [] = 0
+absent (b ∷ bs) = cond b (absent bs) (absent bs + 1)
 
 -- with this part's sets
 abbrev pub with_part : Joining → Part → List Set → Joining

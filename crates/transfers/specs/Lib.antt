@@ -1,4 +1,5 @@
 pub mod Splitting
 pub mod Joining
+pub mod Joinings
 pub mod TransferLaws
 pub mod Sent

@@ -4,16 +4,19 @@
 ghost use Rattle.transfers.specs.Splitting.{SplitLaws};
 ghost use Rattle.transfers.specs.TransferLaws.{TransferLaws};
 
+mod joining;
 mod splitting;
 
 pub use splitting::{Part, split};
 
+// Splitting gives the zone's sets and no others, in parts that keep the rules of packets and are as full as can be.
 pub fn split_laws()
     ensures { SplitLaws }
 {
     wire::packet_laws();
 }
 
+// Parts of a zone make it again in whatever order they come, and parts of two versions never make one.
 pub fn transfer_laws()
     ensures { TransferLaws }
 {

@@ -122,7 +122,7 @@ same_turned a b h = go (same b a) refl
 or_turned : (a b : Bool) → (a || b) ≡ false → (b || a) ≡ false
 or_turned a b h = let p = or_parts a b h in or_from b a p.1 p.0
 
-clash_turned : (s t : Set) → clash s t ≡ false → clash t s ≡ false
+pub clash_turned : (s t : Set) → clash s t ≡ false → clash t s ≡ false
 clash_turned s t h = go (same s.name t.name) refl (aliases s.kind || aliases t.kind) refl h
   where
     go : (a : Bool) → same s.name t.name ≡ a → (b : Bool) → (aliases s.kind || aliases t.kind) ≡ b → clash s t ≡ false → clash t s ≡ false
@@ -134,7 +134,7 @@ clash_turned s t h = go (same s.name t.name) refl (aliases s.kind || aliases t.k
         and_false true y e = e
         and_false false y e = refl
 
-clashes_insert : (t s : Set) (ss : List Set) → clash t s ≡ false → clashes t ss ≡ false → clashes t (insert_set s ss) ≡ false
+pub clashes_insert : (t s : Set) (ss : List Set) → clash t s ≡ false → clashes t ss ≡ false → clashes t (insert_set s ss) ≡ false
 unfolding insert_set
 clashes_insert t s [] h k = or_from (clash t s) false h refl
 clashes_insert t s (u ∷ ss) h k = go (is_before s.name s.kind u) refl (clashes_insert t s ss h (or_parts (clash t u) (clashes t ss) k).1)

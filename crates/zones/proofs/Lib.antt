@@ -5,8 +5,8 @@ mod Beside
 mod Canonical
 mod Topmost
 mod Narrow
-mod Insert
+pub mod Insert
 mod OneMore
 mod Spoken
-mod Standing
+mod Clashing
 mod Added

@@ -11,4 +11,4 @@ returns-in_ok-push-in-Alias c =
     let start = vec_items c.args.out.now in
     let apex = labels c.args.apex.now in
     subst (λ d. AppendsIf (holds_data (content_of d)) start (pieces_text (data_pieces apex (content_of d))) c.write_name.result (vec_items c.write_name.new.out)) (sym c.in-Alias.is)
-    (piece_held (name_piece apex (labels c.in-Alias.name)) start _ _ c.write_name.result c.in_ok-push-in-Alias.ensures.items c.write_name.ensures)
+    (piece_held (name_piece apex (labels c.in-Alias.name.value)) start _ _ c.write_name.result c.in_ok-push-in-Alias.ensures.items c.write_name.ensures)
