@@ -1,15 +1,15 @@
 -- Sets that a zone has not yet, put in at their place.
-use Rattle.std.proofs.Common.{◌≡◌, ℕ, ◌+◌, ◌<◌, ◌≤◌, Bool, true, false, cond, not, ◌&&◌, ◌||◌, ltb, List, [], ◌∷◌, ◌++◌, length, is_some, Some, Ok, Err, sym, refl, ap, ◌∙◌, subst, ⊎_elim, append_assoc, arith, length-append}
+use Rattle.std.proofs.Common.{◌≡◌, ℕ, ◌+◌, Bool, true, false, cond, not, ◌&&◌, ◌||◌, ltb, List, [], ◌∷◌, ◌++◌, length, is_some, Ok, Err, sym, refl, ap, ◌∙◌, ⊎_elim, append_assoc, arith, length-append}
 use mathlib.Core.List.Memᴰ
 use mathlib.Core.List.{Memᴰ}
 use Rattle.std.specs.List.{list_any}
-use Rattle.std.proofs.lemmas.Bool.{cond-true, cond-false, and_parts, or_from, not-true, not_from_true, le-ltb}
+use Rattle.std.proofs.lemmas.Bool.{cond-false, and_parts, or_from, not-true, not_from_true, le-ltb}
 use Rattle.names.specs.declared.fault.Fault.TheVariants.{Misplaced, Conflict, TooMuch}
 use Rattle.names.specs.Order.{within}
 use Rattle.meaning.specs.Model.{delegates, Set}
 use Rattle.meaning.specs.Says.{same, is_exactly, find}
 use Rattle.zones.specs.Sorted.{is_before, sorted}
-use Rattle.zones.specs.Valid.{clashes, no_clash, belongs, insert_set}
+use Rattle.zones.specs.Valid.{clashes, no_clash, insert_set}
 use Rattle.zones.proofs.Insert.{insert_on, clash_turned}
 use Rattle.transfers.specs.Joining.{stands, any_outside, any_stands, any_twice, any_cut_at, any_clash, insert_all, joined}
 use Rattle.transfers.proofs.Searched.{any_found}

@@ -1,16 +1,16 @@
 -- Sets in order, and sets left out of them.
-use Rattle.std.proofs.Common.{◌≡◌, ℕ, ◌<◌, ◌≤◌, Bool, true, false, not, ◌&&◌, ◌||◌, eqb, leb, List, [], ◌∷◌, ◌++◌, length, Ordering, Less, Equal, Greater, sym, refl, ap, ◌∙◌, subst, ⊎_elim, true≢false, append-nil, arith, length-append}
+use Rattle.std.proofs.Common.{◌≡◌, ℕ, ◌<◌, ◌≤◌, true, false, not, ◌&&◌, eqb, leb, List, [], ◌∷◌, ◌++◌, length, Ordering, Less, Equal, Greater, sym, refl, ap, ◌∙◌, subst, ⊎_elim, true≢false, append-nil, arith, length-append}
 use mathlib.Core.List.Memᴰ
 use mathlib.Core.List.{Memᴰ}
 use Rattle.std.specs.Cmp.{IsTotalOrder, nat_cmp_total, on_total, then_total, ranks}
 use Rattle.std.specs.Ordering.{is_lt, ordering_then, MatchOrdering, nat_cmp, then_cmp, on}
-use Rattle.std.proofs.lemmas.Bool.{and_parts, and_from, or_parts, or_from, not-true, not_from_false, eqb-true, leb-true, le-leb, false_from_ne_true}
+use Rattle.std.proofs.lemmas.Bool.{and_parts, and_from, or_parts, or_from, not-true, not_from_false, eqb-true, leb-true, false_from_ne_true}
 use Rattle.names.specs.Comparing.{names_total}
 use Rattle.names.specs.Order.{order}
 use Rattle.names.proofs.Order.{order_itself}
-use Rattle.meaning.specs.Model.{aliases, Set}
+use Rattle.meaning.specs.Model.{Set}
 use Rattle.meaning.specs.Says.{same, is_exactly}
-use Rattle.meaning.proofs.Rules.{same_so, so_same}
+use Rattle.meaning.proofs.Rules.{same_so}
 use Rattle.zones.specs.Sorted.{is_before, sorted}
 use Rattle.zones.specs.Valid.{clash, clashes, no_clash, belongs, all_belong, valid}
 

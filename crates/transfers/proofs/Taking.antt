@@ -11,7 +11,7 @@ use Rattle.zones.specs.Valid.{no_clash, insert_set}
 use Rattle.wire.specs.Cuts.{next}
 use Rattle.wire.specs.Parts.{Part}
 use Rattle.wire.specs.Shapes.{Times}
-use Rattle.transfers.specs.Joining.{any_outside, any_stands, any_twice, any_cut_at, any_clash, insert_all, joined, Joining, same_times, is_counted, belongs_to, is_there, marked, none_there, with_part, begun, begin, take}
+use Rattle.transfers.specs.Joining.{any_outside, any_stands, any_twice, any_cut_at, any_clash, insert_all, joined, Joining, same_times, is_counted, belongs_to, is_there, none_there, with_part, begun, begin, take}
 use Rattle.transfers.specs.TransferLaws.{SameVersion, OfVersion}
 use Rattle.transfers.proofs.Present.{marked_many, none_many}
 
