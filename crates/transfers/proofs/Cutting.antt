@@ -1,14 +1,16 @@
 -- Rows as the code makes them, one set after the other.
-use Rattle.std.proofs.Common.{◌≡◌, ℕ, ◌+◌, ◌<◌, ◌≤◌, List, [], ◌∷◌, ◌++◌, map, length, get_or, drop, sym, ap, ◌∙◌, append_assoc, arith}
+use Rattle.std.proofs.Common.{◌≡◌, ℕ, ◌+◌, ◌<◌, ◌≤◌, List, [], ◌∷◌, ◌++◌, map, length, get_or, take, drop, sym, ap, ◌∙◌, subst, ⊎_elim, append_assoc, arith}
+use mathlib.Core.List.Memᴰ
+use mathlib.Core.List.{Memᴰ}
 use Rattle.std.specs.List.{between}
-use Rattle.std.proofs.lemmas.List.{map-append, drop_more, drop_all}
+use Rattle.std.proofs.lemmas.List.{map-append, take_more, take_all, drop_more, drop_all}
 use Rattle.std.proofs.lemmas.List.Edits.{between_none, between_more}
 use Rattle.std.proofs.lemmas.Slice.{between_to_end}
 use Rattle.meaning.specs.Model.{Set}
 use Rattle.meaning.specs.Transfer.{transferred, all_transferred}
 use Rattle.meaning.proofs.Carried.{length_none}
 use Rattle.transfers.specs.Splitting.{room, rows_behind, rows}
-use Rattle.transfers.proofs.Rows.{length_more, rows_on, rows_cut, rows_end}
+use Rattle.transfers.proofs.Rows.{length_more, rows_on, rows_cut, rows_end, light_rows}
 
 module _ {X : Type 0} (f : X → Set) (xs : List X) where
   abbrev pub Row : ℕ → ℕ → List Set
@@ -20,15 +22,20 @@ module _ {X : Type 0} (f : X → Set) (xs : List X) where
   abbrev pub Cut : List (List Set) → ℕ → ℕ → Type 0
   Cut rs s i = rs ++ rows_behind (Row s i) (map f (drop i xs)) ≡ rows (map f xs)
 
+  -- each set before i alone fits
+  abbrev pub Light : ℕ → Type 0
+  Light i = (s : Set) → Memᴰ s (map f (take i xs)) → length (transferred s) ≤ room
+
   -- rows that are done, and one under way from s on, up to i, that takes n bytes
   pub record Going (rs : List (List Set)) (s i n : ℕ) : Type 0 where
     pub order : s ≤ i
     pub short : n ≤ room
     pub weighed : Weighed s i n
     pub done : Cut rs s i
+    pub light : Light i
 
   pub none_going : (rs : List (List Set)) → rs ≡ [] → Going rs 0 0 0
-  none_going rs e = record { order = omega arith; short = omega arith; weighed = sym length_none; done = ap (λ ys. ys ++ rows (map f xs)) e }
+  none_going rs e = record { order = omega arith; short = omega arith; weighed = sym length_none; done = ap (λ ys. ys ++ rows (map f xs)) e; light = λ s m. absurd (Memᴰ.not-nil m) }
 
   -- at the end the row under way is the last
   pub all_gone : (rs : List (List Set)) (s i n : ℕ) → Going rs s i n → length xs ≤ i → rs ++ Row s (length xs) ∷ [] ≡ rows (map f xs)
@@ -37,6 +44,9 @@ module _ {X : Type 0} (f : X → Set) (xs : List X) where
       ∙ ap (λ r. rs ++ r) (sym (rows_end (Row s i)))
       ∙ ap (λ ys. rs ++ rows_behind (Row s i) (map f ys)) (sym (drop_all i xs l))
       ∙ g.done
+
+  pub all_light : (rs : List (List Set)) (s i n : ℕ) → Going rs s i n → length xs ≤ i → (r : List Set) → Memᴰ r (rows (map f xs)) → length (all_transferred r) ≤ room
+  all_light rs s i n g l = light_rows (map f xs) (λ t m. g.light t (subst (λ ys. Memᴰ t (map f ys)) (sym (take_all i xs l)) m))
 
   module _ (i : ℕ) (x : X) (l : i < length xs) (is : x ≡ get_or xs i x) where
     left : map f (drop i xs) ≡ f x ∷ map f (drop (i + 1) xs)
@@ -52,6 +62,12 @@ module _ {X : Type 0} (f : X → Set) (xs : List X) where
     alone = longer i (omega arith) ∙ ap (λ ys. map f ys ++ f x ∷ []) (between_none xs i)
 
     module _ (rs : List (List Set)) (s n m : ℕ) (g : Going rs s i n) (e : m ≡ length (transferred (f x))) where
+      lighter : m ≤ room → Light (i + 1)
+      lighter fit t k =
+          let more : map f (take (i + 1) xs) ≡ map f (take i xs) ++ f x ∷ [] =
+          ap (map f) (take_more xs i x l) ∙ map-append f (take i xs) (get_or xs i x ∷ []) ∙ ap (λ y. map f (take i xs) ++ f y ∷ []) (sym is) in
+          ⊎_elim (λ a. g.light t a) (λ b. ⊎_elim (λ q. let w = ap (λ y. length (transferred y)) q in omega arith) (λ z. absurd (Memᴰ.not-nil z)) (Memᴰ.cases_cons b)) (Memᴰ.append_cases (map f (take i xs)) (subst (Memᴰ t) more k))
+
       weight : n + m ≡ length (all_transferred (Row s i ++ f x ∷ []))
       weight = let w = g.weighed in let b = length_more (Row s i) (f x) in omega arith
 
@@ -69,6 +85,7 @@ module _ {X : Type 0} (f : X → Set) (xs : List X) where
                 ∙ ap (λ r. rs ++ r) (sym (rows_on (Row s i) (f x) (map f (drop (i + 1) xs)) (omega arith)))
                 ∙ ap (λ ys. rs ++ rows_behind (Row s i) ys) (sym left)
                 ∙ g.done;
+            light = lighter (omega arith);
           }
 
       -- it doesn't, so it begins the next row
@@ -89,4 +106,5 @@ module _ {X : Type 0} (f : X → Set) (xs : List X) where
                 ∙ ap (λ r. rs ++ r) (sym (rows_cut (Row s i) (f x) (map f (drop (i + 1) xs)) (omega arith)))
                 ∙ ap (λ ys. rs ++ rows_behind (Row s i) ys) (sym left)
                 ∙ g.done;
+            light = lighter fit;
           }

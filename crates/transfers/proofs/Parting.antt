@@ -1,5 +1,5 @@
 -- Parts of a transfer: rows behind their heads.
-use Rattle.std.proofs.Common.{◌≡◌, ℕ, ◌+◌, ◌<◌, ◌≤◌, Bool, true, ◌&&◌, eqb, leb, ltb, List, [], ◌∷◌, ◌++◌, length, sym, refl, ap, ◌∙◌, subst, ⊎_elim, arith, length-append}
+use Rattle.std.proofs.Common.{◌≡◌, ℕ, zero, suc, ◌+◌, ◌<◌, ◌≤◌, Bool, true, ◌&&◌, eqb, leb, ltb, List, [], ◌∷◌, ◌++◌, length, sym, refl, ap, ◌∙◌, subst, ⊎_elim, arith, length-append}
 use mathlib.Core.List.Memᴰ
 use mathlib.Core.List.{Memᴰ}
 use Rattle.std.proofs.lemmas.Bool.{and_parts, and_from, or_left, le-leb, lt-ltb}
@@ -7,7 +7,7 @@ use Rattle.meaning.specs.Model.{is_serial, Set, Zone}
 use Rattle.meaning.specs.Transfer.{all_transferred}
 use Rattle.meaning.proofs.Carried.{length_none}
 use Rattle.wire.specs.Laws.{PacketLaws}
-use Rattle.wire.specs.Parts.{head_bytes, part_bytes, times_keep, head_keeps, set_keeps, sets_keep, sets_belong, part_keeps}
+use Rattle.wire.specs.Parts.{Part, head_bytes, part_bytes, times_keep, head_keeps, set_keeps, sets_keep, sets_belong, part_keeps}
 use Rattle.wire.specs.Shapes.{Head}
 use Rattle.transfers.specs.Splitting.{room, rows_behind, rows, part_from, parts_from, split, all_sets, all_keep, SplitLaws}
 use Rattle.transfers.proofs.Rows.{rows_on, rows_end, rows_many, rows_some, joint, rows_whole, each_row, full}
@@ -38,6 +38,108 @@ one_more (t ∷ ss) s h k =
     let p = and_parts (set_keeps t) (sets_keep ss) h in
     and_from (set_keeps t) (sets_keep (ss ++ s ∷ [])) p.0 (one_more ss s p.1 k)
 
+-- ---- a part among the parts
+
+module _ (z : Zone) (id moment of : ℕ) where
+  pub record Among (p : Part) (n : ℕ) (rs : List (List Set)) : Type 0 where
+    pub front : List (List Set)
+    pub row : List Set
+    pub back : List (List Set)
+    pub whole : rs ≡ front ++ row ∷ back
+    pub part_is : p ≡ part_from z id moment of (n + length front) row
+
+  pub among : (p : Part) (n : ℕ) (rs : List (List Set)) → Memᴰ p (parts_from z id moment of n rs) → Among p n rs
+  unfolding parts_from
+  among p n [] m = absurd (Memᴰ.not-nil m)
+  among p n (r ∷ rs) m =
+      ⊎_elim
+      (λ e. record { front = []; row = r; back = rs; whole = refl; part_is = e ∙ ap (λ k. part_from z id moment of k r) (omega arith) })
+      (λ k.
+      let a = among p (n + 1) rs k in
+      record { front = r ∷ a.front; row = a.row; back = a.back; whole = ap (λ xs. r ∷ xs) a.whole; part_is = a.part_is ∙ ap (λ i. part_from z id moment of i a.row) (omega arith) })
+      (Memᴰ.cases_cons m)
+
+  -- there is one of each number
+  pub numbered : (n : ℕ) (rs : List (List Set)) (i : ℕ) → i < length rs → (row : List Set) × Memᴰ (part_from z id moment of (n + i) row) (parts_from z id moment of n rs)
+  unfolding parts_from
+  numbered n [] i l = absurd (omega arith)
+  numbered n (r ∷ rs) zero l = (r, Memᴰ.head (ap (λ k. part_from z id moment of k r) (omega arith)))
+  numbered n (r ∷ rs) (suc i) l =
+      let h = numbered (n + 1) rs i (omega arith) in
+      (h.0, Memᴰ.tail (subst (λ k. Memᴰ (part_from z id moment of k h.0) (parts_from z id moment of (n + 1) rs)) (omega arith) h.1))
+
+-- ---- rows that fit, and parts of them
+
+abbrev Fits : List Set → Type 0
+Fits r = (sets_keep r ≡ true) × (length (all_transferred r) ≤ room)
+
+-- all of a head but the counts
+abbrev version_keeps : Head → Bool
+version_keeps h = ltb h.id 18446744073709551616 && ltb h.serial 18446744073709551616 && is_serial h.serial && ltb h.moment 18446744073709551616 && times_keep h.times
+
+pub within : (h : Head) → h.id < 18446744073709551616 → h.serial < 18446744073709551616 → is_serial h.serial ≡ true → h.moment < 18446744073709551616
+    → h.times.negative < 4294967296 → h.times.refresh < 4294967296 → h.times.expire < 4294967296 → version_keeps h ≡ true
+within h i s k m n r e =
+    let times = and_from (ltb h.times.negative 4294967296 && ltb h.times.refresh 4294967296) (ltb h.times.expire 4294967296) (and_from (ltb h.times.negative 4294967296) (ltb h.times.refresh 4294967296) (lt-ltb h.times.negative 4294967296 n) (lt-ltb h.times.refresh 4294967296 r)) (lt-ltb h.times.expire 4294967296 e) in
+    and_from (ltb h.id 18446744073709551616 && ltb h.serial 18446744073709551616 && is_serial h.serial && ltb h.moment 18446744073709551616) (times_keep h.times)
+    (and_from (ltb h.id 18446744073709551616 && ltb h.serial 18446744073709551616 && is_serial h.serial) (ltb h.moment 18446744073709551616)
+    (and_from (ltb h.id 18446744073709551616 && ltb h.serial 18446744073709551616) (is_serial h.serial)
+    (and_from (ltb h.id 18446744073709551616) (ltb h.serial 18446744073709551616) (lt-ltb h.id 18446744073709551616 i) (lt-ltb h.serial 18446744073709551616 s)) k)
+    (lt-ltb h.moment 18446744073709551616 m))
+    times
+
+pub counted : (h : Head) → version_keeps h ≡ true → h.part < 65536 → h.of < 65536 → head_keeps h ≡ true
+counted h v l m =
+    and_from (version_keeps h && ltb h.part 65536) (ltb h.of 65536) (and_from (version_keeps h) (ltb h.part 65536) v (lt-ltb h.part 65536 l)) (lt-ltb h.of 65536 m)
+
+pub version : (h : Head) → head_keeps h ≡ true → version_keeps h ≡ true
+version h k = (and_parts (version_keeps h) (ltb h.part 65536) (and_parts (version_keeps h && ltb h.part 65536) (ltb h.of 65536) k).0).0
+
+module _ (z : Zone) (id moment of : ℕ) (v : version_keeps (part_from z id moment 1 1 []).head ≡ true) (some : 1 ≤ of) (m : of < 65536) where
+  one_keeps : (n : ℕ) (r : List Set) → n < 65536 → Fits r → part_keeps (part_from z id moment of n r) ≡ true
+  one_keeps n r l f =
+      let h = (part_from z id moment of n r).head in
+      let long = part_long h r in
+      let short = f.1 in
+      and_from (head_keeps h && sets_keep r && sets_belong h r) (leb (length (part_bytes (part_from z id moment of n r))) 1200)
+      (and_from (head_keeps h && sets_keep r) (sets_belong h r) (and_from (head_keeps h) (sets_keep r) (counted h v l m) f.0) (or_left (leb 1 of) (eqb (length r) 0) (le-leb 1 of some)))
+      (le-leb (length (part_bytes (part_from z id moment of n r))) 1200 (omega arith))
+
+  parts_keep : (n : ℕ) (rs : List (List Set)) → n + length rs ≤ 65536 → ((r : List Set) → Memᴰ r rs → Fits r) → all_keep (parts_from z id moment of n rs) ≡ true
+  unfolding parts_from
+  parts_keep n [] l f = refl
+  parts_keep n (r ∷ rs) l f =
+      and_from (part_keeps (part_from z id moment of n r)) (all_keep (parts_from z id moment of (n + 1) rs)) (one_keeps n r (omega arith) (f r (Memᴰ.head refl)))
+      (parts_keep (n + 1) rs (omega arith) (λ q k. f q (Memᴰ.tail k)))
+
+-- ---- the parts of a zone whose rows are short
+
+module _ (z : Zone) (id moment : ℕ) (short : (r : List Set) → Memᴰ r (rows z.sets) → length (all_transferred r) ≤ room) where
+  abbrev all : ℕ
+  all = length (rows z.sets)
+
+  its : (p : Part) (a : Among z id moment all p 1 (rows z.sets)) → length (all_transferred a.row) ≤ room
+  its p a = short a.row (subst (Memᴰ a.row) (sym a.whole) (Memᴰ.append_right a.front (Memᴰ.head refl)))
+
+  pub short_part : (p : Part) → Memᴰ p (split z id moment) → length (part_bytes p) ≤ 1200
+  short_part p m =
+      let a = among z id moment all p 1 (rows z.sets) m in
+      let l = part_long (part_from z id moment all (1 + length a.front) a.row).head a.row in
+      let s = its p a in
+      let e = ap (λ (q : Part). length (part_bytes q)) a.part_is in
+      omega arith
+
+  pub kept_part : version_keeps (part_from z id moment 1 1 []).head ≡ true → length z.sets ≤ 4096 → (p : Part) → Memᴰ p (split z id moment) → sets_keep p.sets ≡ true → part_keeps p ≡ true
+  kept_part v few p m k =
+      let a = among z id moment all p 1 (rows z.sets) m in
+      let n = rows_many [] z.sets in
+      let w = ap length a.whole in
+      let c = length-append a.front (a.row ∷ a.back) in
+      ap part_keeps a.part_is
+      ∙ one_keeps z id moment all v (rows_some [] z.sets) (omega arith) (1 + length a.front) a.row (omega arith) (ap sets_keep (sym (ap (λ (q : Part). q.sets) a.part_is)) ∙ k, its p a)
+
+-- ---- the laws
+
 module _ (laws : PacketLaws) where
   alone : (s : Set) → set_keeps s ≡ true → length (all_transferred (s ∷ [])) ≤ room
   alone s h =
@@ -48,11 +150,7 @@ module _ (laws : PacketLaws) where
 
   -- ---- rows of such sets
 
-  pub Fits : List Set → Type 0
-  Fits r = (sets_keep r ≡ true) × (length (all_transferred r) ≤ room)
-
   rows_fit : (ss : List Set) → sets_keep ss ≡ true → (r : List Set) → Memᴰ r (rows ss) → Fits r
-  unfolding Fits
   rows_fit ss h r m =
       let z = length_none in
       each_row Fits (λ s. set_keeps s ≡ true) (λ row s p k l. (one_more row s p.0 k, l)) (λ s k. (one_more [] s refl k, alone s k)) [] ss (refl, omega arith) (λ s k. set_in ss s h k) r m
@@ -73,37 +171,6 @@ module _ (laws : PacketLaws) where
       let n = ap length (begun s ss h) in
       let m = rows_many (s ∷ []) ss in
       (rows_some [] (s ∷ ss), λ _. omega arith)
-
-  -- ---- parts of such rows
-
-  -- all of a head but the counts
-  abbrev version_keeps : Head → Bool
-  version_keeps h = ltb h.id 18446744073709551616 && ltb h.serial 18446744073709551616 && is_serial h.serial && ltb h.moment 18446744073709551616 && times_keep h.times
-
-  counted : (h : Head) → version_keeps h ≡ true → h.part < 65536 → h.of < 65536 → head_keeps h ≡ true
-  counted h v l m =
-      and_from (version_keeps h && ltb h.part 65536) (ltb h.of 65536) (and_from (version_keeps h) (ltb h.part 65536) v (lt-ltb h.part 65536 l)) (lt-ltb h.of 65536 m)
-
-  version : (h : Head) → head_keeps h ≡ true → version_keeps h ≡ true
-  version h k = (and_parts (version_keeps h) (ltb h.part 65536) (and_parts (version_keeps h && ltb h.part 65536) (ltb h.of 65536) k).0).0
-
-  module _ (z : Zone) (id moment of : ℕ) (v : version_keeps (part_from z id moment 1 1 []).head ≡ true) (some : 1 ≤ of) (m : of < 65536) where
-    one_keeps : (n : ℕ) (r : List Set) → n < 65536 → Fits r → part_keeps (part_from z id moment of n r) ≡ true
-    unfolding Fits
-    one_keeps n r l f =
-        let h = (part_from z id moment of n r).head in
-        let long = part_long h r in
-        let short = f.1 in
-        and_from (head_keeps h && sets_keep r && sets_belong h r) (leb (length (part_bytes (part_from z id moment of n r))) 1200)
-        (and_from (head_keeps h && sets_keep r) (sets_belong h r) (and_from (head_keeps h) (sets_keep r) (counted h v l m) f.0) (or_left (leb 1 of) (eqb (length r) 0) (le-leb 1 of some)))
-        (le-leb (length (part_bytes (part_from z id moment of n r))) 1200 (omega arith))
-
-    parts_keep : (n : ℕ) (rs : List (List Set)) → n + length rs ≤ 65536 → ((r : List Set) → Memᴰ r rs → Fits r) → all_keep (parts_from z id moment of n rs) ≡ true
-    unfolding parts_from
-    parts_keep n [] l f = refl
-    parts_keep n (r ∷ rs) l f =
-        and_from (part_keeps (part_from z id moment of n r)) (all_keep (parts_from z id moment of (n + 1) rs)) (one_keeps n r (omega arith) (f r (Memᴰ.head refl)))
-        (parts_keep (n + 1) rs (omega arith) (λ q k. f q (Memᴰ.tail k)))
 
   fits : (z : Zone) (id moment : ℕ) → head_keeps (part_from z id moment 1 1 []).head ≡ true → sets_keep z.sets ≡ true → length z.sets ≤ 4096 → all_keep (split z id moment) ≡ true
   fits z id moment h k l =

@@ -51,9 +51,12 @@ rows_many row (s ∷ ss) =
     (λ n. let e = ap length n.1 in let h = rows_many (s ∷ []) ss in omega arith)
     (next_row row s ss)
 
+pub few_sets : (apex : List (List ℕ)) (ss : List Set) → valid apex ss ≡ true → length ss ≤ 4096
+few_sets apex ss v = leb-true (length ss) 4096 (and_parts (all_belong apex ss && no_clash ss) (leb (length ss) 4096) v).1
+
 pub rows_limited : (apex : List (List ℕ)) (ss : List Set) → valid apex ss ≡ true → length (rows ss) ≤ 4097
 rows_limited apex ss v =
-    let l = leb-true (length ss) 4096 (and_parts (all_belong apex ss && no_clash ss) (leb (length ss) 4096) v).1 in
+    let l = few_sets apex ss v in
     let m = rows_many [] ss in
     omega arith
 
@@ -98,6 +101,12 @@ module _ (P : List Set → Type 0) (Q : Set → Type 0)
       (λ n. each_row (row ++ s ∷ []) ss (more row s p (q s (Memᴰ.head refl)) n.0) (λ t k. q t (Memᴰ.tail k)) r (subst (Memᴰ r) n.1 m))
       (λ n. ⊎_elim (λ e. subst P (sym e) p) (λ k. each_row (s ∷ []) ss (first s (q s (Memᴰ.head refl))) (λ t i. q t (Memᴰ.tail i)) r k) (Memᴰ.cases_cons (subst (Memᴰ r) n.1 m)))
       (next_row row s ss)
+
+-- where each set alone fits, so does each row
+pub light_rows : (ss : List Set) → ((s : Set) → Memᴰ s ss → length (transferred s) ≤ room) → (r : List Set) → Memᴰ r (rows ss) → length (all_transferred r) ≤ room
+light_rows ss h r m =
+    let z = length_none in
+    each_row (λ r. length (all_transferred r) ≤ room) (λ s. length (transferred s) ≤ room) (λ row s p k l. l) (λ s k. let a = length_all s [] in let z = length_none in omega arith) [] ss (omega arith) h r m
 
 -- ---- each is as full as can be
 

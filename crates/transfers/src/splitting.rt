@@ -1,10 +1,15 @@
 // A zone is cut into the parts of its transfer.
-ghost use Rattle.std.specs.Prelude.{◌≡◌, [], map, MatchResult};
+ghost use Rattle.std.specs.Prelude.{◌≡◌, ◌≤◌, true, List, [], map, length, IfOk, MatchResult};
+ghost use mathlib.Core.List.{Memᴰ};
 ghost use Rattle.names.specs.declared.fault.Fault.TheVariants.{NoMemory};
+ghost use Rattle.meaning.specs.Model.{Set};
+ghost use Rattle.meaning.specs.Transfer.{all_transferred};
 ghost use Rattle.records.specs.Sets.{set_of};
 ghost use Rattle.zones.specs.Zones.{zone_of};
 ghost use Rattle.wire.specs.Heads.{head_of};
-ghost use Rattle.transfers.specs.Splitting.{rows, part_from, split};
+ghost use Rattle.wire.specs.Parts as parts;
+ghost use Rattle.wire.specs.Parts.{part_bytes, head_keeps, sets_keep, part_keeps};
+ghost use Rattle.transfers.specs.Splitting.{room, rows, part_from, split};
 ghost use Rattle.transfers.specs.Sent.{part_of};
 
 use cache::{Moment, QueryId};
@@ -26,7 +31,8 @@ pub struct Part<'a> {
 
 // As many sets in each row as fit, in the order in which they stand.
 fn rows<'a>(heap: Global, sets: &'a [RecordSet]) -> Result<Vec<&'a [RecordSet]>, Fault>
-    ensures { MatchResult result (λ v. map (λ r. map set_of r.now) v.items ≡ rows (map set_of sets.now)) (λ f. f ≡ NoMemory) }
+    ensures value { MatchResult result (λ v. map (λ r. map set_of r.now) v.items ≡ rows (map set_of sets.now)) (λ f. f ≡ NoMemory) }
+    ensures short { IfOk result (λ _. (row : List Set) → Memᴰ row (rows (map set_of sets.now)) → length (all_transferred row) ≤ room) }
 {
     let mut rows = Vec::new(heap);
     let mut start: usize = 0;
@@ -46,7 +52,8 @@ fn rows<'a>(heap: Global, sets: &'a [RecordSet]) -> Result<Vec<&'a [RecordSet]>,
 
 // What stands before the sets, of as many parts, before the first one.
 fn head_before(zone: &Zone, id: QueryId, moment: Moment, of: u16) -> PartHead
-    ensures { head_of result ≡ (part_from (zone_of zone.now) id.0 moment.0 of 0 []).head }
+    ensures kept { head_keeps (head_of result) ≡ true }
+    ensures value { head_of result ≡ (part_from (zone_of zone.now) id.0 moment.0 of 0 []).head }
 {
     let times = Times {
         negative: zone.negative(),
@@ -70,7 +77,9 @@ pub fn split<'a>(
     id: QueryId,
     moment: Moment,
 ) -> Result<Vec<Part<'a>>, Fault>
-    ensures { MatchResult result (λ v. map part_of v.items ≡ split (zone_of zone.now) id.0 moment.0) (λ f. f ≡ NoMemory) }
+    ensures value { MatchResult result (λ v. map part_of v.items ≡ split (zone_of zone.now) id.0 moment.0) (λ f. f ≡ NoMemory) }
+    ensures short { IfOk result (λ _. (p : parts.Part) → Memᴰ p (split (zone_of zone.now) id.0 moment.0) → length (part_bytes p) ≤ 1200) }
+    ensures keeps { IfOk result (λ _. (p : parts.Part) → Memᴰ p (split (zone_of zone.now) id.0 moment.0) → sets_keep p.sets ≡ true → part_keeps p ≡ true) }
 {
     let rows = rows(heap, zone.sets())?;
     let mut head = head_before(zone, id, moment, rows.len() as u16);

@@ -1,15 +1,17 @@
-use Rattle.std.proofs.Common.{◌≡◌, ◌+◌, ◌++◌, [], ◌∷◌, List, Bor, map, length, vec_items, sym, ap, ◌∙◌, arith, rules}
+use Rattle.std.proofs.Common.{◌≡◌, ◌+◌, ◌++◌, [], ◌∷◌, List, Bor, map, length, vec_items, sym, ap, subst, ◌∙◌, arith, rules}
+use mathlib.Core.List.{Memᴰ}
 use lib.ListN.{length-map}
 use Rattle.std.proofs.lemmas.List.{map-append}
 use Rattle.records.specs.Sets.{set_of}
 use Rattle.zones.specs.Zones.{zone_of}
 use Rattle.records.specs.declared.set.RecordSet.{RecordSet}
-use Rattle.wire.specs.Parts.{Part}
+use Rattle.wire.specs.Parts.{Part, head_keeps}
 use Rattle.wire.specs.Shapes.{Head}
 use Rattle.wire.specs.Heads.{head_of}
 use Rattle.transfers.specs.Splitting.{rows, part_from, parts_from}
 use Rattle.transfers.specs.Sent.{part_of}
-use Rattle.transfers.proofs.Rows.{rows_limited}
+use Rattle.transfers.proofs.Rows.{few_sets, rows_limited}
+use Rattle.transfers.proofs.Parting.{version, short_part, kept_part}
 use Rattle.transfers.proofs.Numbering.{none_numbered, one_numbered, all_numbered}
 use Rattle.transfers.proofs.splitting.split.Goals as goal
 
@@ -17,7 +19,7 @@ pub overflow_cast-len : goal.overflow_cast-len
 overflow_cast-len c =
     let z = zone_of c.args.zone.now in
     let few = rows_limited z.apex z.sets c.args.zone.now.limited in
-    let n = ap length (c.in_ok-rows.ensures ∙ ap rows c.sets.ensures) in
+    let n = ap length (c.in_ok-rows.ensures.value ∙ ap rows c.sets.ensures) in
     let m = length-map (vec_items c.in_ok-rows.rows) (λ r. map set_of r.now) in
     let l = c.len.ensures in
     omega arith
@@ -28,8 +30,8 @@ loop-row-init c =
     let n = c.len.ensures in
     let m = c.as_slice-row-items.ensures.len in
     record {
-      all = ap (map (λ r. map set_of r.now)) c.as_slice-row-items.ensures.value ∙ c.in_ok-rows.ensures ∙ ap rows c.sets.ensures;
-      head = c.head_before-head.ensures ∙ ap (λ n. (part_from z c.args.id.0 c.args.moment.0 n 0 []).head) (omega arith);
+      all = ap (map (λ r. map set_of r.now)) c.as_slice-row-items.ensures.value ∙ c.in_ok-rows.ensures.value ∙ ap rows c.sets.ensures;
+      head = c.head_before-head.ensures.value ∙ ap (λ n. (part_from z c.args.id.0 c.args.moment.0 n 0 []).head) (omega arith);
       done = none_numbered (λ r. map set_of r.now) c.as_slice-row-items.result.now z _ _ _ _ (ap (map part_of) c.in_ok-parts.ensures.items);
     }
 
@@ -57,10 +59,20 @@ loop-row-preserved c =
           (more ∙ ap (λ (h : Head). map part_of (vec_items c.loop-row.parts) ++ record { head = h; sets = map set_of c.row-item.result.now } ∷ []) head);
     }
 
-pub returns : goal.returns
-returns c =
+pub returns-clause-value : goal.returns-clause-value
+returns-clause-value c =
     let z = zone_of c.args.zone.now in
     let all = c.loop-row.invariant.all in
     let m = length-map c.as_slice-row-items.result.now (λ r. map set_of r.now) in
     all_numbered (λ r. map set_of r.now) c.as_slice-row-items.result.now z _ _ _ _ _ c.loop-row.invariant.done c.loop-row-test.false
     ∙ (λ i. parts_from z c.args.id.0 c.args.moment.0 ((sym m ∙ ap length all) i) 1 (all i))
+
+pub returns-clause-short : goal.returns-clause-short
+returns-clause-short c = short_part (zone_of c.args.zone.now) c.args.id.0 c.args.moment.0 (λ r m. c.in_ok-rows.ensures.short r (subst (λ ss. Memᴰ r (rows ss)) (sym c.sets.ensures) m))
+
+pub returns-clause-keeps : goal.returns-clause-keeps
+returns-clause-keeps c =
+    let z = zone_of c.args.zone.now in
+    let h = (part_from z c.args.id.0 c.args.moment.0 c.len.result 0 []).head in
+    kept_part z c.args.id.0 c.args.moment.0 (λ r m. c.in_ok-rows.ensures.short r (subst (λ ss. Memᴰ r (rows ss)) (sym c.sets.ensures) m))
+    (version h (ap head_keeps (sym c.head_before-head.ensures.value) ∙ c.head_before-head.ensures.kept)) (few_sets z.apex z.sets c.args.zone.now.limited)
