@@ -9,8 +9,8 @@ use Rattle.std.proofs.lemmas.Slice.{between_to_end}
 use Rattle.meaning.specs.Model.{Set}
 use Rattle.meaning.specs.Transfer.{transferred, all_transferred}
 use Rattle.meaning.proofs.Carried.{length_none}
-use Rattle.transfers.specs.Splitting.{room, rows_behind, rows}
-use Rattle.transfers.proofs.Rows.{length_more, rows_on, rows_cut, rows_end, light_rows}
+use Rattle.transfers.specs.Splitting.{room, rows_behind, rows, EachFits}
+use Rattle.transfers.proofs.Rows.{length_more, rows_on, rows_cut, rows_end}
 
 module _ {X : Type 0} (f : X → Set) (xs : List X) where
   abbrev pub Row : ℕ → ℕ → List Set
@@ -24,7 +24,7 @@ module _ {X : Type 0} (f : X → Set) (xs : List X) where
 
   -- each set before i alone fits
   abbrev pub Light : ℕ → Type 0
-  Light i = (s : Set) → Memᴰ s (map f (take i xs)) → length (transferred s) ≤ room
+  Light i = EachFits (map f (take i xs))
 
   -- rows that are done, and one under way from s on, up to i, that takes n bytes
   pub record Going (rs : List (List Set)) (s i n : ℕ) : Type 0 where
@@ -45,8 +45,8 @@ module _ {X : Type 0} (f : X → Set) (xs : List X) where
       ∙ ap (λ ys. rs ++ rows_behind (Row s i) (map f ys)) (sym (drop_all i xs l))
       ∙ g.done
 
-  pub all_light : (rs : List (List Set)) (s i n : ℕ) → Going rs s i n → length xs ≤ i → (r : List Set) → Memᴰ r (rows (map f xs)) → length (all_transferred r) ≤ room
-  all_light rs s i n g l = light_rows (map f xs) (λ t m. g.light t (subst (λ ys. Memᴰ t (map f ys)) (sym (take_all i xs l)) m))
+  pub all_light : (rs : List (List Set)) (s i n : ℕ) → Going rs s i n → length xs ≤ i → EachFits (map f xs)
+  all_light rs s i n g l t m = g.light t (subst (λ ys. Memᴰ t (map f ys)) (sym (take_all i xs l)) m)
 
   module _ (i : ℕ) (x : X) (l : i < length xs) (is : x ≡ get_or xs i x) where
     left : map f (drop i xs) ≡ f x ∷ map f (drop (i + 1) xs)

@@ -5,12 +5,12 @@ use mathlib.Core.List.{Memᴰ}
 use Rattle.std.proofs.lemmas.Bool.{and_parts, and_from, or_left, le-leb, lt-ltb}
 use Rattle.meaning.specs.Model.{is_serial, Set, Zone}
 use Rattle.meaning.specs.Transfer.{all_transferred}
-use Rattle.meaning.proofs.Carried.{length_none}
+use Rattle.meaning.proofs.Carried.{length_all, length_none}
 use Rattle.wire.specs.Laws.{PacketLaws}
 use Rattle.wire.specs.Parts.{Part, head_bytes, part_bytes, times_keep, head_keeps, set_keeps, sets_keep, sets_belong, part_keeps}
 use Rattle.wire.specs.Shapes.{Head}
-use Rattle.transfers.specs.Splitting.{room, rows_behind, rows, part_from, parts_from, split, all_sets, all_keep, SplitLaws}
-use Rattle.transfers.proofs.Rows.{rows_on, rows_end, rows_many, rows_some, joint, rows_whole, each_row, full}
+use Rattle.transfers.specs.Splitting.{room, EachFits, rows_behind, rows, part_from, parts_from, split, all_sets, all_keep, SplitLaws}
+use Rattle.transfers.proofs.Rows.{rows_on, rows_end, rows_many, rows_some, joint, rows_whole, each_row, light_rows, full}
 
 -- ---- how long parts are
 
@@ -112,14 +112,14 @@ module _ (z : Zone) (id moment of : ℕ) (v : version_keeps (part_from z id mome
       and_from (part_keeps (part_from z id moment of n r)) (all_keep (parts_from z id moment of (n + 1) rs)) (one_keeps n r (omega arith) (f r (Memᴰ.head refl)))
       (parts_keep (n + 1) rs (omega arith) (λ q k. f q (Memᴰ.tail k)))
 
--- ---- the parts of a zone whose rows are short
+-- ---- the parts of a zone whose sets fit
 
-module _ (z : Zone) (id moment : ℕ) (short : (r : List Set) → Memᴰ r (rows z.sets) → length (all_transferred r) ≤ room) where
+module _ (z : Zone) (id moment : ℕ) (fit : EachFits z.sets) where
   abbrev all : ℕ
   all = length (rows z.sets)
 
   its : (p : Part) (a : Among z id moment all p 1 (rows z.sets)) → length (all_transferred a.row) ≤ room
-  its p a = short a.row (subst (Memᴰ a.row) (sym a.whole) (Memᴰ.append_right a.front (Memᴰ.head refl)))
+  its p a = light_rows z.sets fit a.row (subst (Memᴰ a.row) (sym a.whole) (Memᴰ.append_right a.front (Memᴰ.head refl)))
 
   pub short_part : (p : Part) → Memᴰ p (split z id moment) → length (part_bytes p) ≤ 1200
   short_part p m =
@@ -138,55 +138,61 @@ module _ (z : Zone) (id moment : ℕ) (short : (r : List Set) → Memᴰ r (rows
       ap part_keeps a.part_is
       ∙ one_keeps z id moment all v (rows_some [] z.sets) (omega arith) (1 + length a.front) a.row (omega arith) (ap sets_keep (sym (ap (λ (q : Part). q.sets) a.part_is)) ∙ k, its p a)
 
+-- ---- rows of sets that fit
+
+-- the first set is in the first row
+begun : (s : Set) (ss : List Set) → EachFits (s ∷ ss) → rows (s ∷ ss) ≡ rows_behind (s ∷ []) ss
+begun s ss fit =
+    let l = fit s (Memᴰ.head refl) in
+    let a = length_all s [] in
+    let z = length_none in
+    rows_on [] s ss (omega arith)
+
+several : (ss : List Set) (front back : List (List Set)) (row : List Set) → EachFits ss → rows ss ≡ front ++ row ∷ back → 1 < length (rows ss) → 1 ≤ length row
+several [] front back row h e l = let n = ap length (rows_end []) in absurd (omega arith)
+several (s ∷ ss) front back row h e l =
+    each_row (λ r. 1 ≤ length r) (λ _. Unit {0}) (λ r t _ _ _. let n = length-append r (t ∷ []) in omega arith) (λ t _. omega arith) (s ∷ []) ss (omega arith) (λ _ _. tt) row
+    (subst (Memᴰ row) (sym e ∙ begun s ss h) (Memᴰ.append_right front (Memᴰ.head refl)))
+
+few : (ss : List Set) → EachFits ss → (1 ≤ length (rows ss)) × (1 ≤ length ss → length (rows ss) ≤ length ss)
+few [] h = (rows_some [] [], λ l. absurd (omega arith))
+few (s ∷ ss) h =
+    let n = ap length (begun s ss h) in
+    let m = rows_many (s ∷ []) ss in
+    (rows_some [] (s ∷ ss), λ _. omega arith)
+
 -- ---- the laws
 
-module _ (laws : PacketLaws) where
-  alone : (s : Set) → set_keeps s ≡ true → length (all_transferred (s ∷ [])) ≤ room
-  alone s h =
-      let any : Head = record { id = 0; serial = 0; moment = 0; times = record { negative = 0; refresh = 0; expire = 0 }; part = 0; of = 0 } in
-      let f = laws.set_fits any s h in
-      let l = part_long any (s ∷ []) in
-      omega arith
+whole_from : (z : Zone) (id moment of n : ℕ) (rs : List (List Set)) → all_sets (parts_from z id moment of n rs) ≡ joint rs
+unfolding all_sets parts_from
+whole_from z id moment of n [] = refl
+whole_from z id moment of n (r ∷ rs) = ap (λ xs. r ++ xs) (whole_from z id moment of (n + 1) rs)
 
-  -- ---- rows of such sets
+module _ (laws : PacketLaws) where
+  alone : (ss : List Set) → sets_keep ss ≡ true → EachFits ss
+  alone ss h s m =
+      let any : Head = record { id = 0; serial = 0; moment = 0; times = record { negative = 0; refresh = 0; expire = 0 }; part = 0; of = 0 } in
+      let f = laws.set_fits any s (set_in ss s h m) in
+      let l = part_long any (s ∷ []) in
+      let a = length_all s [] in
+      let z = length_none in
+      omega arith
 
   rows_fit : (ss : List Set) → sets_keep ss ≡ true → (r : List Set) → Memᴰ r (rows ss) → Fits r
   rows_fit ss h r m =
-      let z = length_none in
-      each_row Fits (λ s. set_keeps s ≡ true) (λ row s p k l. (one_more row s p.0 k, l)) (λ s k. (one_more [] s refl k, alone s k)) [] ss (refl, omega arith) (λ s k. set_in ss s h k) r m
-
-  -- the first set always fits
-  begun : (s : Set) (ss : List Set) → sets_keep (s ∷ ss) ≡ true → rows (s ∷ ss) ≡ rows_behind (s ∷ []) ss
-  begun s ss h = rows_on [] s ss (alone s (and_parts (set_keeps s) (sets_keep ss) h).0)
-
-  several : (ss : List Set) (front back : List (List Set)) (row : List Set) → sets_keep ss ≡ true → rows ss ≡ front ++ row ∷ back → 1 < length (rows ss) → 1 ≤ length row
-  several [] front back row h e l = let n = ap length (rows_end []) in absurd (omega arith)
-  several (s ∷ ss) front back row h e l =
-      each_row (λ r. 1 ≤ length r) (λ _. Unit {0}) (λ r t _ _ _. let n = length-append r (t ∷ []) in omega arith) (λ t _. omega arith) (s ∷ []) ss (omega arith) (λ _ _. tt) row
-      (subst (Memᴰ row) (sym e ∙ begun s ss h) (Memᴰ.append_right front (Memᴰ.head refl)))
-
-  few : (ss : List Set) → sets_keep ss ≡ true → (1 ≤ length (rows ss)) × (1 ≤ length ss → length (rows ss) ≤ length ss)
-  few [] h = (rows_some [] [], λ l. absurd (omega arith))
-  few (s ∷ ss) h =
-      let n = ap length (begun s ss h) in
-      let m = rows_many (s ∷ []) ss in
-      (rows_some [] (s ∷ ss), λ _. omega arith)
+      (each_row (λ r. sets_keep r ≡ true) (λ s. set_keeps s ≡ true) (λ row s p k _. one_more row s p k) (λ s k. one_more [] s refl k) [] ss refl (λ s k. set_in ss s h k) r m, light_rows ss (alone ss h) r m)
 
   fits : (z : Zone) (id moment : ℕ) → head_keeps (part_from z id moment 1 1 []).head ≡ true → sets_keep z.sets ≡ true → length z.sets ≤ 4096 → all_keep (split z id moment) ≡ true
   fits z id moment h k l =
       let m = rows_many [] z.sets in
       parts_keep z id moment (length (rows z.sets)) (version (part_from z id moment 1 1 []).head h) (rows_some [] z.sets) (omega arith) 1 (rows z.sets) (omega arith) (rows_fit z.sets k)
 
-  whole_from : (z : Zone) (id moment of n : ℕ) (rs : List (List Set)) → all_sets (parts_from z id moment of n rs) ≡ joint rs
-  unfolding all_sets parts_from
-  whole_from z id moment of n [] = refl
-  whole_from z id moment of n (r ∷ rs) = ap (λ xs. r ++ xs) (whole_from z id moment of (n + 1) rs)
-
   pub split_laws : SplitLaws
   split_laws = record {
     whole = λ z id moment. whole_from z id moment (length (rows z.sets)) 1 (rows z.sets) ∙ rows_whole z.sets;
     fits = fits;
     full = λ z. full z.sets;
+    alone = alone;
     several = λ z. several z.sets;
     few = λ z. few z.sets;
   }

@@ -9,9 +9,9 @@ use Rattle.meaning.specs.Model.{Set, Zone}
 use Rattle.zones.specs.Sorted.{sorted}
 use Rattle.zones.specs.Valid.{valid}
 use Rattle.wire.specs.Cuts.{next}
-use Rattle.wire.specs.Parts.{Part, sets_keep}
+use Rattle.wire.specs.Parts.{Part}
 use Rattle.wire.specs.Shapes.{Times}
-use Rattle.transfers.specs.Splitting.{rows, times_of, part_from, parts_from, split, SplitLaws}
+use Rattle.transfers.specs.Splitting.{EachFits, rows, times_of, part_from, parts_from, split, SplitLaws}
 use Rattle.transfers.specs.Joining.{joined, Joining, same_times, has_sets, is_counted, belongs_to, is_there, marked, none_there, is_complete, with_part, begun, begin, take, zone_in, take_all, join}
 use Rattle.transfers.specs.TransferLaws.{Rejoined}
 use Rattle.transfers.proofs.Rows.{joint, joint_append, rows_many, rows_whole}
@@ -36,7 +36,7 @@ next_ok : {A B : Type 0} (r : Result A Fault) (a : A) (f : A → Result B Fault)
 unfolding next
 next_ok r a f e = ap (λ x. next x f) e
 
-module _ (laws : SplitLaws) (z : Zone) (id moment : ℕ) (o : sorted z.sets ≡ true) (v : valid z.apex z.sets ≡ true) (keep : sets_keep z.sets ≡ true) where
+module _ (laws : SplitLaws) (z : Zone) (id moment : ℕ) (o : sorted z.sets ≡ true) (v : valid z.apex z.sets ≡ true) (fit : EachFits z.sets) where
   abbrev all : List (List Set)
   all = rows z.sets
 
@@ -71,7 +71,7 @@ module _ (laws : SplitLaws) (z : Zone) (id moment : ℕ) (o : sorted z.sets ≡ 
         let n = count in
         ⊎_elim
         (λ (l : 1 < length all).
-        let m = laws.several z a.front a.back a.row keep a.whole l in
+        let m = laws.several z a.front a.back a.row fit a.whole l in
         let q = ap length sets in
         or_right (eqb p.head.of 1) (has_sets p) (not_from_false (eqb (length p.sets) 0) (false_from_ne_true (eqb (length p.sets) 0) (λ z. let w = eqb-true (length p.sets) 0 z in omega arith))))
         (λ (l : length all ≤ 1). or_left (eqb p.head.of 1) (has_sets p) (eq-eqb p.head.of 1 (omega arith)))
@@ -223,7 +223,7 @@ module _ (laws : SplitLaws) (z : Zone) (id moment : ℕ) (o : sorted z.sets ≡ 
   not_many =
       let few = (good_from z.apex z.sets o v).few in
       let m = rows_many [] z.sets in
-      ⊎_elim (λ (l : 0 < length z.sets). let h = (laws.few z keep).1 (omega arith) in omega arith) (λ (l : length z.sets ≤ 0). omega arith) (cases_lt 0 (length z.sets))
+      ⊎_elim (λ (l : 0 < length z.sets). let h = (laws.few z fit).1 (omega arith) in omega arith) (λ (l : length z.sets ≤ 0). omega arith) (cases_lt 0 (length z.sets))
 
   started : (p : Part) → Located p → Started p
   unfolding begin

@@ -7,7 +7,7 @@ use Rattle.meaning.specs.Model.{Set}
 use Rattle.meaning.specs.Transfer.{transferred, all_transferred}
 use Rattle.meaning.proofs.Carried.{length_all, length_none}
 use Rattle.zones.specs.Valid.{no_clash, all_belong, valid}
-use Rattle.transfers.specs.Splitting.{room, rows_behind, rows}
+use Rattle.transfers.specs.Splitting.{room, rows_behind, rows, EachFits}
 
 pub length_more : (ss : List Set) (s : Set) → length (all_transferred (ss ++ s ∷ [])) ≡ length (all_transferred ss) + length (transferred s)
 length_more [] s = let a = length_all s [] in let z = length_none in omega arith
@@ -103,7 +103,7 @@ module _ (P : List Set → Type 0) (Q : Set → Type 0)
       (next_row row s ss)
 
 -- where each set alone fits, so does each row
-pub light_rows : (ss : List Set) → ((s : Set) → Memᴰ s ss → length (transferred s) ≤ room) → (r : List Set) → Memᴰ r (rows ss) → length (all_transferred r) ≤ room
+pub light_rows : (ss : List Set) → EachFits ss → (r : List Set) → Memᴰ r (rows ss) → length (all_transferred r) ≤ room
 light_rows ss h r m =
     let z = length_none in
     each_row (λ r. length (all_transferred r) ≤ room) (λ s. length (transferred s) ≤ room) (λ row s p k l. l) (λ s k. let a = length_all s [] in let z = length_none in omega arith) [] ss (omega arith) h r m

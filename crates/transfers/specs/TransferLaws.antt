@@ -4,8 +4,8 @@ use mathlib.Core.List.{Memᴰ}
 use Rattle.meaning.specs.Model.{Set, Zone}
 use Rattle.zones.specs.Sorted.{sorted}
 use Rattle.zones.specs.Valid.{valid}
-use Rattle.wire.specs.Parts.{Part, sets_keep}
-use Rattle.transfers.specs.Splitting.{split}
+use Rattle.wire.specs.Parts.{Part}
+use Rattle.transfers.specs.Splitting.{EachFits, split}
 use Rattle.transfers.specs.Joining.{Joining, is_there, is_complete, begin, take, zone_in, join}
 
 -- of the same version of a zone, cut into as many parts
@@ -34,7 +34,7 @@ pub record Rejoined (z : Zone) (id moment : ℕ) (came : List Part) : Type 0 whe
 pub record TransferLaws : Type 0 where
   -- parts of a zone in any order, repeated or not, are never refused, and make the zone once all are there
   pub rejoined : (z : Zone) (id moment : ℕ) (p : Part) (ps : List Part)
-      → sorted z.sets ≡ true → valid z.apex z.sets ≡ true → sets_keep z.sets ≡ true
+      → sorted z.sets ≡ true → valid z.apex z.sets ≡ true → EachFits z.sets
       → ((q : Part) → Memᴰ q (p ∷ ps) → Memᴰ q (split z id moment))
       → (r : Rejoined z id moment (p ∷ ps)) × (join z.apex p ps ≡ Ok r.result)
   -- parts of two versions never make a zone: whatever is taken is of the version of the first

@@ -1,15 +1,13 @@
 // A zone is cut into the parts of its transfer.
-ghost use Rattle.std.specs.Prelude.{◌≡◌, ◌≤◌, true, List, [], map, length, IfOk, MatchResult};
+ghost use Rattle.std.specs.Prelude.{◌≡◌, ◌≤◌, true, [], map, length, IfOk, MatchResult};
 ghost use mathlib.Core.List.{Memᴰ};
 ghost use Rattle.names.specs.declared.fault.Fault.TheVariants.{NoMemory};
-ghost use Rattle.meaning.specs.Model.{Set};
-ghost use Rattle.meaning.specs.Transfer.{all_transferred};
 ghost use Rattle.records.specs.Sets.{set_of};
 ghost use Rattle.zones.specs.Zones.{zone_of};
 ghost use Rattle.wire.specs.Heads.{head_of};
 ghost use Rattle.wire.specs.Parts as parts;
 ghost use Rattle.wire.specs.Parts.{part_bytes, head_keeps, sets_keep, part_keeps};
-ghost use Rattle.transfers.specs.Splitting.{room, rows, part_from, split};
+ghost use Rattle.transfers.specs.Splitting.{rows, EachFits, part_from, split};
 ghost use Rattle.transfers.specs.Sent.{part_of};
 
 use cache::{Moment, QueryId};
@@ -32,7 +30,7 @@ pub struct Part<'a> {
 // As many sets in each row as fit, in the order in which they stand.
 fn rows<'a>(heap: Global, sets: &'a [RecordSet]) -> Result<Vec<&'a [RecordSet]>, Fault>
     ensures value { MatchResult result (λ v. map (λ r. map set_of r.now) v.items ≡ rows (map set_of sets.now)) (λ f. f ≡ NoMemory) }
-    ensures short { IfOk result (λ _. (row : List Set) → Memᴰ row (rows (map set_of sets.now)) → length (all_transferred row) ≤ room) }
+    ensures alone { IfOk result (λ _. EachFits (map set_of sets.now)) }
 {
     let mut rows = Vec::new(heap);
     let mut start: usize = 0;
@@ -78,6 +76,7 @@ pub fn split<'a>(
     moment: Moment,
 ) -> Result<Vec<Part<'a>>, Fault>
     ensures value { MatchResult result (λ v. map part_of v.items ≡ split (zone_of zone.now) id.0 moment.0) (λ f. f ≡ NoMemory) }
+    ensures alone { IfOk result (λ _. EachFits (zone_of zone.now).sets) }
     ensures short { IfOk result (λ _. (p : parts.Part) → Memᴰ p (split (zone_of zone.now) id.0 moment.0) → length (part_bytes p) ≤ 1200) }
     ensures keeps { IfOk result (λ _. (p : parts.Part) → Memᴰ p (split (zone_of zone.now) id.0 moment.0) → sets_keep p.sets ≡ true → part_keeps p ≡ true) }
 {

@@ -27,5 +27,5 @@ returns-clause-value c =
     let more : map (λ r. map set_of r.now) (vec_items c.push-2.new.self) ≡ map (λ r. map set_of r.now) (vec_items c.loop-at.rows) ++ Row set_of sets c.loop-at.start (length sets) ∷ [] = search (rules, map-append) in
     more ∙ all_gone set_of sets _ _ _ _ c.loop-at.invariant (omega arith)
 
-pub returns-clause-short : goal.returns-clause-short
-returns-clause-short c = all_light set_of c.args.sets.now _ _ _ _ c.loop-at.invariant (omega arith)
+pub returns-clause-alone : goal.returns-clause-alone
+returns-clause-alone c = all_light set_of c.args.sets.now _ _ _ _ c.loop-at.invariant (omega arith)

@@ -1,5 +1,4 @@
 use Rattle.std.proofs.Common.{◌≡◌, ◌+◌, ◌++◌, [], ◌∷◌, List, Bor, map, length, vec_items, sym, ap, subst, ◌∙◌, arith, rules}
-use mathlib.Core.List.{Memᴰ}
 use lib.ListN.{length-map}
 use Rattle.std.proofs.lemmas.List.{map-append}
 use Rattle.records.specs.Sets.{set_of}
@@ -8,7 +7,7 @@ use Rattle.records.specs.declared.set.RecordSet.{RecordSet}
 use Rattle.wire.specs.Parts.{Part, head_keeps}
 use Rattle.wire.specs.Shapes.{Head}
 use Rattle.wire.specs.Heads.{head_of}
-use Rattle.transfers.specs.Splitting.{rows, part_from, parts_from}
+use Rattle.transfers.specs.Splitting.{rows, EachFits, part_from, parts_from}
 use Rattle.transfers.specs.Sent.{part_of}
 use Rattle.transfers.proofs.Rows.{few_sets, rows_limited}
 use Rattle.transfers.proofs.Parting.{version, short_part, kept_part}
@@ -67,12 +66,14 @@ returns-clause-value c =
     all_numbered (λ r. map set_of r.now) c.as_slice-row-items.result.now z _ _ _ _ _ c.loop-row.invariant.done c.loop-row-test.false
     ∙ (λ i. parts_from z c.args.id.0 c.args.moment.0 ((sym m ∙ ap length all) i) 1 (all i))
 
+pub returns-clause-alone : goal.returns-clause-alone
+returns-clause-alone c = subst EachFits c.sets.ensures c.in_ok-rows.ensures.alone
+
 pub returns-clause-short : goal.returns-clause-short
-returns-clause-short c = short_part (zone_of c.args.zone.now) c.args.id.0 c.args.moment.0 (λ r m. c.in_ok-rows.ensures.short r (subst (λ ss. Memᴰ r (rows ss)) (sym c.sets.ensures) m))
+returns-clause-short c = short_part (zone_of c.args.zone.now) c.args.id.0 c.args.moment.0 (subst EachFits c.sets.ensures c.in_ok-rows.ensures.alone)
 
 pub returns-clause-keeps : goal.returns-clause-keeps
 returns-clause-keeps c =
     let z = zone_of c.args.zone.now in
     let h = (part_from z c.args.id.0 c.args.moment.0 c.len.result 0 []).head in
-    kept_part z c.args.id.0 c.args.moment.0 (λ r m. c.in_ok-rows.ensures.short r (subst (λ ss. Memᴰ r (rows ss)) (sym c.sets.ensures) m))
-    (version h (ap head_keeps (sym c.head_before-head.ensures.value) ∙ c.head_before-head.ensures.kept)) (few_sets z.apex z.sets c.args.zone.now.limited)
+    kept_part z c.args.id.0 c.args.moment.0 (subst EachFits c.sets.ensures c.in_ok-rows.ensures.alone) (version h (ap head_keeps (sym c.head_before-head.ensures.value) ∙ c.head_before-head.ensures.kept)) (few_sets z.apex z.sets c.args.zone.now.limited)
