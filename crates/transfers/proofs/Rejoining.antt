@@ -1,5 +1,5 @@
 -- Parts of a zone, in whatever order they come, make the zone.
-use Rattle.std.proofs.Common.{◌≡◌, ℕ, zero, suc, ◌⊎◌, inl, inr, ◌+◌, ◌<◌, ◌≤◌, Bool, true, false, cond, ◌&&◌, ◌||◌, eqb, leb, ltb, List, [], ◌∷◌, ◌++◌, length, Ok, Err, Result, sym, refl, ap, ◌∙◌, subst, ⊎_elim, append-nil, arith, length-append}
+use Rattle.std.proofs.Common.{◌≡◌, ℕ, suc, ◌⊎◌, inl, inr, ◌+◌, ◌<◌, ◌≤◌, Bool, true, false, cond, ◌&&◌, ◌||◌, eqb, leb, ltb, List, [], ◌∷◌, ◌++◌, length, Ok, Err, Result, sym, refl, ap, ◌∙◌, subst, ⊎_elim, append-nil, arith, length-append}
 use mathlib.Core.List.Memᴰ
 use mathlib.Core.List.{Memᴰ}
 use Rattle.std.proofs.lemmas.Bool.{cond-true, cond-false, and_from, eq-eqb, le-leb, le-ltb, cases_lt, not_from_false, false_from_ne_true, eqb-true, or_left, or_right}
@@ -11,7 +11,7 @@ use Rattle.zones.specs.Valid.{valid}
 use Rattle.wire.specs.Cuts.{next}
 use Rattle.wire.specs.Parts.{Part}
 use Rattle.wire.specs.Shapes.{Times}
-use Rattle.transfers.specs.Splitting.{EachFits, rows, times_of, part_from, parts_from, split, SplitLaws}
+use Rattle.transfers.specs.Splitting.{EachFits, rows, times_of, part_from, split, SplitLaws}
 use Rattle.transfers.specs.Joining.{joined, Joining, same_times, has_sets, is_counted, belongs_to, is_there, marked, none_there, is_complete, with_part, begun, begin, take, zone_in, take_all, join}
 use Rattle.transfers.specs.TransferLaws.{Rejoined}
 use Rattle.transfers.proofs.Rows.{joint, joint_append, rows_many, rows_whole}
