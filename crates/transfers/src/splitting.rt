@@ -89,3 +89,50 @@ pub fn split<'a>(
     }
     Ok(parts)
 }
+
+#[cfg(test)]
+mod tests {
+    use super::*;
+    use names::Name;
+    use records::{Data, Kind, Serial, Ttl};
+    use std::test::Fail;
+
+    // A text that takes 520 bytes in a transfer.
+    fn text(heap: Global, name: &[u8]) -> Result<RecordSet, Fault> {
+        let half = vec![in heap; b't'; 250]?;
+        let texts = vec![in heap; half.clone()?, half]?;
+        RecordSet::new(
+            Name::read_whole(name)?,
+            Kind::TEXT,
+            Ttl(300),
+            Data::Texts(texts),
+        )
+    }
+
+    fn village(heap: Global) -> Result<Zone, Fault> {
+        let times = Times {
+            negative: Ttl(60),
+            refresh: Ttl(600),
+            expire: Ttl(86400),
+        };
+        let apex = Name::read_whole(b"upperton")?;
+        let mut zone = Zone::new(heap, apex, Serial::try_from(1)?, times);
+        zone.insert(text(heap, b"a.upperton")?)?;
+        zone.insert(text(heap, b"b.upperton")?)?;
+        zone.insert(text(heap, b"c.upperton")?)?;
+        Ok(zone)
+    }
+
+    #[test]
+    fn puts_as_many_sets_in_a_part_as_fit(rt: HostRuntime) -> Result<(), Fail> {
+        let heap = rt.alloc();
+        let zone = village(heap)?;
+        let parts = split(heap, &zone, QueryId(7), Moment(9))?;
+        let mut told = Vec::new(heap);
+        for part in parts.as_slice() {
+            told.push((part.head.part, part.head.of, part.sets.len()))?;
+        }
+        assert_eq!(rt; told.as_slice(), [(1, 2, 2), (2, 2, 1)].as_slice());
+        Ok(())
+    }
+}
