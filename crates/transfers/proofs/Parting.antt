@@ -59,15 +59,6 @@ module _ (z : Zone) (id moment of : ℕ) where
       record { front = r ∷ a.front; row = a.row; back = a.back; whole = ap (λ xs. r ∷ xs) a.whole; part_is = a.part_is ∙ ap (λ i. part_from z id moment of i a.row) (omega arith) })
       (Memᴰ.cases_cons m)
 
-  -- there is one of each number
-  pub numbered : (n : ℕ) (rs : List (List Set)) (i : ℕ) → i < length rs → (row : List Set) × Memᴰ (part_from z id moment of (n + i) row) (parts_from z id moment of n rs)
-  unfolding parts_from
-  numbered n [] i l = absurd (omega arith)
-  numbered n (r ∷ rs) zero l = (r, Memᴰ.head (ap (λ k. part_from z id moment of k r) (omega arith)))
-  numbered n (r ∷ rs) (suc i) l =
-      let h = numbered (n + 1) rs i (omega arith) in
-      (h.0, Memᴰ.tail (subst (λ k. Memᴰ (part_from z id moment of k h.0) (parts_from z id moment of (n + 1) rs)) (omega arith) h.1))
-
 -- ---- rows that fit, and parts of them
 
 abbrev Fits : List Set → Type 0

@@ -1,5 +1,5 @@
 -- Parts of a zone, in whatever order they come, make the zone.
-use Rattle.std.proofs.Common.{◌≡◌, ℕ, suc, ◌⊎◌, inl, inr, ◌+◌, ◌<◌, ◌≤◌, Bool, true, false, cond, ◌&&◌, ◌||◌, eqb, leb, ltb, List, [], ◌∷◌, ◌++◌, length, Ok, Err, Result, sym, refl, ap, ◌∙◌, subst, ⊎_elim, append-nil, arith, length-append}
+use Rattle.std.proofs.Common.{◌≡◌, ℕ, zero, suc, ◌⊎◌, inl, inr, ◌+◌, ◌<◌, ◌≤◌, Bool, true, false, cond, ◌&&◌, ◌||◌, eqb, leb, ltb, List, [], ◌∷◌, ◌++◌, length, Ok, Err, Result, sym, refl, ap, ◌∙◌, subst, ⊎_elim, append-nil, arith, length-append}
 use mathlib.Core.List.Memᴰ
 use mathlib.Core.List.{Memᴰ}
 use Rattle.std.proofs.lemmas.Bool.{cond-true, cond-false, and_from, eq-eqb, le-leb, le-ltb, cases_lt, not_from_false, false_from_ne_true, eqb-true, or_left, or_right}
@@ -13,9 +13,9 @@ use Rattle.wire.specs.Parts.{Part}
 use Rattle.wire.specs.Shapes.{Times}
 use Rattle.transfers.specs.Splitting.{EachFits, rows, times_of, part_from, split, SplitLaws}
 use Rattle.transfers.specs.Joining.{joined, Joining, same_times, has_sets, is_counted, belongs_to, is_there, marked, none_there, is_complete, with_part, begun, begin, take, zone_in, take_all, join}
-use Rattle.transfers.specs.TransferLaws.{Rejoined}
+use Rattle.transfers.specs.TransferLaws.{IsPart, AllCame, Rejoined}
 use Rattle.transfers.proofs.Rows.{joint, joint_append, rows_many, rows_whole}
-use Rattle.transfers.proofs.Parting.{Among, among, numbered}
+use Rattle.transfers.proofs.Parting.{Among, among}
 use Rattle.transfers.proofs.Orders.{Good, good_from, good_middle}
 use Rattle.transfers.proofs.Inserting.{joins}
 use Rattle.transfers.proofs.Present.{present, Place, place, there_at, marked_at, marked_many, marked_keeps, marked_only, none_is_there, none_many, none_present, complete_from, complete_at, complete_present, present_at, present_good}
@@ -26,17 +26,11 @@ same_so s t e =
     (and_from (eqb s.negative t.negative) (eqb s.refresh t.refresh) (eq-eqb s.negative t.negative (ap (λ (x : Times). x.negative) e)) (eq-eqb s.refresh t.refresh (ap (λ (x : Times). x.refresh) e)))
     (eq-eqb s.expire t.expire (ap (λ (x : Times). x.expire) e))
 
-same_row : {A : Type 0} (xs ys : List A) (x y : A) (vs ws : List A) → xs ++ x ∷ vs ≡ ys ++ y ∷ ws → length xs ≡ length ys → x ≡ y
-same_row [] [] x y vs ws e l = cc
-same_row [] (b ∷ ys) x y vs ws e l = absurd (omega arith)
-same_row (a ∷ xs) [] x y vs ws e l = absurd (omega arith)
-same_row (a ∷ xs) (b ∷ ys) x y vs ws e l = let f : xs ++ x ∷ vs ≡ ys ++ y ∷ ws = cc in same_row xs ys x y vs ws f (omega arith)
-
 next_ok : {A B : Type 0} (r : Result A Fault) (a : A) (f : A → Result B Fault) → r ≡ Ok a → next r f ≡ f a
 unfolding next
 next_ok r a f e = ap (λ x. next x f) e
 
-module _ (laws : SplitLaws) (z : Zone) (id moment : ℕ) (o : sorted z.sets ≡ true) (v : valid z.apex z.sets ≡ true) (fit : EachFits z.sets) where
+module _ (laws : SplitLaws) (z : Zone) (moment : ℕ) (o : sorted z.sets ≡ true) (v : valid z.apex z.sets ≡ true) (fit : EachFits z.sets) where
   abbrev all : List (List Set)
   all = rows z.sets
 
@@ -45,13 +39,17 @@ module _ (laws : SplitLaws) (z : Zone) (id moment : ℕ) (o : sorted z.sets ≡ 
 
   -- ---- a part, its row, and its number
 
-  abbrev pub Located : Part → Type 0
-  Located p = Among z id moment (length all) p 1 all
+  pub record Located (p : Part) : Type 0 where
+    pub id : ℕ
+    pub among : Among z id moment (length all) p 1 all
 
-  located : (p : Part) → Memᴰ p (split z id moment) → Located p
-  located p m = among z id moment (length all) p 1 all m
+  located : (p : Part) → IsPart z moment p → Located p
+  located p m = record { id = m.0; among = among z m.0 moment (length all) p 1 all m.1 }
 
-  module _ (p : Part) (a : Located p) where
+  module _ (p : Part) (l : Located p) where
+    abbrev a : Among z l.id moment (length all) p 1 all
+    a = l.among
+
     number : p.head.part ≡ suc (length a.front)
     number = let e = ap (λ (q : Part). q.head.part) a.part_is in omega arith
 
@@ -93,9 +91,9 @@ module _ (laws : SplitLaws) (z : Zone) (id moment : ℕ) (o : sorted z.sets ≡ 
         let g = good_middle z.apex (joint a.front) a.row (joint a.back) (subst (Good z.apex) parts good) in
         joins z.apex [] p.sets [] (subst (Good z.apex) (sym (append-nil p.sets)) (subst (Good z.apex) (sym sets) g))
 
-    module _ (there : List Bool) (l : length there ≡ length all) where
+    module _ (there : List Bool) (as_many : length there ≡ length all) where
       its : Place there a.front a.back
-      its = place there a.front a.row a.back (l ∙ ap length a.whole)
+      its = place there a.front a.row a.back (as_many ∙ ap length a.whole)
 
       -- its number, as its place has it
       at : p.head.part ≡ suc (length its.before)
@@ -131,9 +129,9 @@ module _ (laws : SplitLaws) (z : Zone) (id moment : ℕ) (o : sorted z.sets ≡ 
 
   belongs : (j : Joining) → Going j → (p : Part) → Located p → belongs_to j p ≡ true
   belongs j g p a =
-      let serial = ap (λ (q : Part). q.head.serial) a.part_is ∙ sym g.serial in
-      let time = ap (λ (q : Part). q.head.moment) a.part_is ∙ sym g.moment_is in
-      let times = ap (λ (q : Part). q.head.times) a.part_is ∙ sym g.times in
+      let serial = ap (λ (q : Part). q.head.serial) a.among.part_is ∙ sym g.serial in
+      let time = ap (λ (q : Part). q.head.moment) a.among.part_is ∙ sym g.moment_is in
+      let times = ap (λ (q : Part). q.head.times) a.among.part_is ∙ sym g.times in
       and_from (eqb p.head.serial j.serial && eqb p.head.moment j.moment && same_times p.head.times j.times && eqb p.head.of (length j.there)) (is_counted p)
       (and_from (eqb p.head.serial j.serial && eqb p.head.moment j.moment && same_times p.head.times j.times) (eqb p.head.of (length j.there))
       (and_from (eqb p.head.serial j.serial && eqb p.head.moment j.moment) (same_times p.head.times j.times)
@@ -195,7 +193,7 @@ module _ (laws : SplitLaws) (z : Zone) (id moment : ℕ) (o : sorted z.sets ≡ 
     pub keeps : (n : ℕ) → is_there j.there n ≡ true → is_there result.there n ≡ true
     pub only : (n : ℕ) → is_there result.there n ≡ true → ((q : Part) × Memᴰ q ps × (n ≡ q.head.part)) ⊎ (is_there j.there n ≡ true)
 
-  gone : (ps : List Part) (j : Joining) → Going j → ((q : Part) → Memᴰ q ps → Memᴰ q (split z id moment)) → Gone j ps
+  gone : (ps : List Part) (j : Joining) → Going j → ((q : Part) → Memᴰ q ps → IsPart z moment q) → Gone j ps
   unfolding take_all
   gone [] j g h = record { result = j; is = refl; going = g; there = λ q m. absurd (Memᴰ.not-nil m); keeps = λ n t. t; only = λ n t. inr t }
   gone (p ∷ ps) j g h =
@@ -243,9 +241,9 @@ module _ (laws : SplitLaws) (z : Zone) (id moment : ℕ) (o : sorted z.sets ≡ 
             ∙ cond-true (is_counted p) (Ok (with_part (begun z.apex p) p ss)) (Err BadTransfer) (counted p a);
         going = record {
           apex = refl;
-          serial = ap (λ (q : Part). q.head.serial) a.part_is;
-          moment_is = ap (λ (q : Part). q.head.moment) a.part_is;
-          times = ap (λ (q : Part). q.head.times) a.part_is;
+          serial = ap (λ (q : Part). q.head.serial) a.among.part_is;
+          moment_is = ap (λ (q : Part). q.head.moment) a.among.part_is;
+          times = ap (λ (q : Part). q.head.times) a.among.part_is;
           as_many = marked_many there p.head.part ∙ l;
           sets = refl;
         };
@@ -255,16 +253,7 @@ module _ (laws : SplitLaws) (z : Zone) (id moment : ℕ) (o : sorted z.sets ≡ 
 
   -- ---- all of them
 
-  -- of each number there is one
-  same_part : (p q : Part) → Located p → Located q → p.head.part ≡ q.head.part → p ≡ q
-  same_part p q a b e =
-      let n = number p a in
-      let m = number q b in
-      let level : length a.front ≡ length b.front = omega arith in
-      let row = same_row a.front b.front a.row b.row a.back b.back (sym a.whole ∙ b.whole) level in
-      a.part_is ∙ (λ i. part_from z id moment (length all) (1 + level i) (row i)) ∙ sym b.part_is
-
-  module _ (p : Part) (ps : List Part) (h : (q : Part) → Memᴰ q (p ∷ ps) → Memᴰ q (split z id moment)) (j : Joining)
+  module _ (p : Part) (ps : List Part) (h : (q : Part) → Memᴰ q (p ∷ ps) → IsPart z moment q) (j : Joining)
       (g : Going j) (came : (q : Part) → Memᴰ q (p ∷ ps) → is_there j.there q.head.part ≡ true)
       (only : (n : ℕ) → is_there j.there n ≡ true → (q : Part) × Memᴰ q (p ∷ ps) × (n ≡ q.head.part)) where
     whole : is_complete j.there ≡ true → zone_in j ≡ z
@@ -273,30 +262,25 @@ module _ (laws : SplitLaws) (z : Zone) (id moment : ℕ) (o : sorted z.sets ≡ 
         let t = g.times in
         λ i. record { apex = g.apex i; serial = g.serial i; negative = (t i).negative; refresh = (t i).refresh; expire = (t i).expire; sets = ss i }
 
-    all_came : ((q : Part) → Memᴰ q (split z id moment) → Memᴰ q (p ∷ ps)) → is_complete j.there ≡ true
+    all_came : AllCame z (p ∷ ps) → is_complete j.there ≡ true
     all_came every =
         complete_from j.there
         (λ i l.
         let m = g.as_many in
-        let n = numbered z id moment (length all) 1 all i (omega arith) in
-        let q = part_from z id moment (length all) (1 + i) n.0 in
-        let e : 1 + i ≡ suc i = omega arith in
-        subst (λ x. is_there j.there x ≡ true) e (came q (every q n.1)))
+        let q = every (suc i) (omega arith) (omega arith) in
+        subst (λ n. is_there j.there n ≡ true) q.2 (came q.0 q.1))
 
-    only_all : is_complete j.there ≡ true → (q : Part) → Memᴰ q (split z id moment) → Memᴰ q (p ∷ ps)
-    only_all c q m =
-        let a = located q m in
-        let n = number q a in
-        let f = count q a in
-        let l = g.as_many in
-        let t = subst (λ x. is_there j.there x ≡ true) (sym n) (complete_at j.there (length a.front) (omega arith) c) in
-        let w = only q.head.part t in
-        subst (λ x. Memᴰ x (p ∷ ps)) (sym (same_part q w.0 a (located w.0 (h w.0 w.1)) w.2)) w.1
+    only_all : is_complete j.there ≡ true → AllCame z (p ∷ ps)
+    only_all c zero l m = absurd (omega arith)
+    only_all c (suc i) l m =
+        let k = g.as_many in
+        let q = only (suc i) (complete_at j.there i (omega arith) c) in
+        (q.0, q.1, sym q.2)
 
-    pub rejoined_as : Rejoined z id moment (p ∷ ps)
+    pub rejoined_as : Rejoined z moment (p ∷ ps)
     rejoined_as = record { result = j; complete_is_zone = whole; moment_is = g.moment_is; all_came = all_came; only_all = only_all }
 
-  pub rejoins : (p : Part) (ps : List Part) → ((q : Part) → Memᴰ q (p ∷ ps) → Memᴰ q (split z id moment)) → (r : Rejoined z id moment (p ∷ ps)) × (join z.apex p ps ≡ Ok r.result)
+  pub rejoins : (p : Part) (ps : List Part) → ((q : Part) → Memᴰ q (p ∷ ps) → IsPart z moment q) → (r : Rejoined z moment (p ∷ ps)) × (join z.apex p ps ≡ Ok r.result)
   unfolding rejoined_as
   rejoins p ps h =
       let s = started p (located p (h p (Memᴰ.head refl))) in

@@ -4,7 +4,7 @@ use Rattle.transfers.proofs.transfer_laws.Goals as goal
 
 pub returns : goal.returns
 returns c = record {
-  rejoined = λ z id moment p ps o v k h. rejoins c.split_laws.ensures z id moment o v k p ps h;
+  rejoined = rejoins c.split_laws.ensures;
   one_version = one_version;
   first_version = first_version;
   said = said;
