@@ -3,6 +3,7 @@ use Rattle.std.proofs.Common.{◌≡◌, ℕ, ◌-◌, ◌<◌, ◌≤◌, Bool,
 use mathlib.Core.List.Memᴰ
 use mathlib.Core.List.{Memᴰ}
 use lib.ListN.{length-map}
+use Rattle.std.proofs.Math.Bool.{or-false}
 use Rattle.std.proofs.lemmas.Bool.{and_parts, or_left, or_right, or_parts, cases_lt, cases_Bool}
 use Rattle.std.specs.List.{ItemBy}
 use Rattle.std.specs.Option.{MatchOption}
@@ -31,10 +32,6 @@ looks s (t ∷ ss) = go (clash s t) refl (clashes s ss) (looks s ss)
     go true e c ih = meets t (Memᴰ.head refl) e
     go false e c (meets u m f) = meets u (Memᴰ.tail m) f
     go false e c (meets_none h) = meets_none (λ u m. ⊎_elim (λ d. ap (clash s) d ∙ e) (λ k. h u k) (Memᴰ.cases_cons m))
-
-or_false : (b : Bool) → (b || false) ≡ b
-or_false true = refl
-or_false false = refl
 
 -- ---- on both sides of its place
 
@@ -70,7 +67,7 @@ module _ (ss : List Set) (o : sorted ss ≡ true) (c : no_clash ss ≡ true) (s 
   any = record { name = []; kind = 0; ttl = 0; content = AliasOf [] }
 
   at_there : (j : ℕ) → j < length ss → clashes s (set_at j ss) ≡ clash s (get_or ss j any)
-  at_there j l = ap (clashes s) (at_index ss j any l) ∙ or_false (clash s (get_or ss j any))
+  at_there j l = ap (clashes s) (at_index ss j any l) ∙ or-false (clash s (get_or ss j any))
 
   meets_at : (j : ℕ) → clashes s (set_at j ss) ≡ true → true ≡ clashes s ss
   meets_at j h =
@@ -117,4 +114,4 @@ module _ (ss : List Set) (o : sorted ss ≡ true) (c : no_clash ss ≡ true) (s 
 -- of the element that the code got, or of none
 pub clash_by : {R X : Type 0} (now : R → X) (f : X → Set) (xs : List X) (s : Set) (i : ℕ) (r : Option R) (b : Bool) (P : R → Type 0) → ItemBy now xs i i r → MatchOption r (b ≡ false) P → ((x : R) → P x → b ≡ clash s (f (now x))) → b ≡ clashes s (set_at i (map f xs))
 clash_by now f xs s i None b P h e by = let m = length-map xs f in let l = h.3 in e ∙ ap (clashes s) (sym (past_index (map f xs) i (omega arith)))
-clash_by now f xs s i (Some x) b P h e by = by x e ∙ sym (or_false (clash s (f (now x)))) ∙ ap (clashes s) (set_there f xs i (now x) h.3.0 h.1)
+clash_by now f xs s i (Some x) b P h e by = by x e ∙ sym (or-false (clash s (f (now x)))) ∙ ap (clashes s) (set_there f xs i (now x) h.3.0 h.1)

@@ -65,6 +65,12 @@ impl SortedSets {
         ensures sets { sets_of self.new ≡ insert_set (set_of set) (sets_of self.old) }
     {
         let front = set.name().front_below(self.apex.label_count());
+        // Behind all, none has to move.
+        if at == self.sets.len() {
+            self.sets.push_reserved(set);
+            self.fronts.push_reserved(front);
+            return;
+        }
         let _ = self.sets.insert(at, set);
         let _ = self.fronts.insert(at, front);
     }

@@ -15,7 +15,7 @@ use records::RecordSet;
 fn clash(set: &RecordSet, other: &RecordSet) -> bool
     ensures { result ≡ clash (set_of set.now) (set_of other.now) }
 {
-    *set.name() == *other.name() && (set.kind().is_alias() || other.kind().is_alias())
+    (set.kind().is_alias() || other.kind().is_alias()) && *set.name() == *other.name()
 }
 
 impl SortedSets {
