@@ -9,8 +9,8 @@ use Rattle.meaning.proofs.Carried.{length_all, length_none}
 use Rattle.wire.specs.Laws.{PacketLaws}
 use Rattle.wire.specs.Parts.{Part, head_bytes, part_bytes, times_keep, head_keeps, set_keeps, sets_keep, sets_belong, part_keeps}
 use Rattle.wire.specs.Shapes.{Head}
-use Rattle.transfers.specs.Splitting.{room, EachFits, rows_behind, rows, part_from, parts_from, split, all_sets, all_keep, SplitLaws}
-use Rattle.transfers.proofs.Rows.{rows_on, rows_end, rows_many, rows_some, joint, rows_whole, each_row, light_rows, full}
+use Rattle.transfers.specs.Splitting.{room, EachFits, rows_behind, rows, part_from, parts_from, split, all_sets, SplitLaws}
+use Rattle.transfers.proofs.Rows.{rows_on, rows_end, rows_many, rows_some, joint, joint_append, rows_whole, each_row, light_rows, full}
 
 -- ---- how long parts are
 
@@ -32,11 +32,15 @@ set_in (t ∷ ss) s h m =
     let p = and_parts (set_keeps t) (sets_keep ss) h in
     ⊎_elim (λ e. ap set_keeps e ∙ p.0) (λ n. set_in ss s p.1 n) (Memᴰ.cases_cons m)
 
-one_more : (ss : List Set) (s : Set) → sets_keep ss ≡ true → set_keeps s ≡ true → sets_keep (ss ++ s ∷ []) ≡ true
-one_more [] s h k = and_from (set_keeps s) true k refl
-one_more (t ∷ ss) s h k =
-    let p = and_parts (set_keeps t) (sets_keep ss) h in
-    and_from (set_keeps t) (sets_keep (ss ++ s ∷ [])) p.0 (one_more ss s p.1 k)
+keep_back : (xs ys : List Set) → sets_keep (xs ++ ys) ≡ true → sets_keep ys ≡ true
+keep_back [] ys h = h
+keep_back (x ∷ xs) ys h = keep_back xs ys (and_parts (set_keeps x) (sets_keep (xs ++ ys)) h).1
+
+keep_front : (xs ys : List Set) → sets_keep (xs ++ ys) ≡ true → sets_keep xs ≡ true
+keep_front [] ys h = refl
+keep_front (x ∷ xs) ys h =
+    let p = and_parts (set_keeps x) (sets_keep (xs ++ ys)) h in
+    and_from (set_keeps x) (sets_keep xs) p.0 (keep_front xs ys p.1)
 
 -- ---- a part among the parts
 
@@ -59,10 +63,7 @@ module _ (z : Zone) (id moment of : ℕ) where
       record { front = r ∷ a.front; row = a.row; back = a.back; whole = ap (λ xs. r ∷ xs) a.whole; part_is = a.part_is ∙ ap (λ i. part_from z id moment of i a.row) (omega arith) })
       (Memᴰ.cases_cons m)
 
--- ---- rows that fit, and parts of them
-
-abbrev Fits : List Set → Type 0
-Fits r = (sets_keep r ≡ true) × (length (all_transferred r) ≤ room)
+-- ---- heads that keep the rules
 
 -- all of a head but the counts
 abbrev version_keeps : Head → Bool
@@ -86,23 +87,6 @@ counted h v l m =
 pub version : (h : Head) → head_keeps h ≡ true → version_keeps h ≡ true
 version h k = (and_parts (version_keeps h) (ltb h.part 65536) (and_parts (version_keeps h && ltb h.part 65536) (ltb h.of 65536) k).0).0
 
-module _ (z : Zone) (id moment of : ℕ) (v : version_keeps (part_from z id moment 1 1 []).head ≡ true) (some : 1 ≤ of) (m : of < 65536) where
-  one_keeps : (n : ℕ) (r : List Set) → n < 65536 → Fits r → part_keeps (part_from z id moment of n r) ≡ true
-  one_keeps n r l f =
-      let h = (part_from z id moment of n r).head in
-      let long = part_long h r in
-      let short = f.1 in
-      and_from (head_keeps h && sets_keep r && sets_belong h r) (leb (length (part_bytes (part_from z id moment of n r))) 1200)
-      (and_from (head_keeps h && sets_keep r) (sets_belong h r) (and_from (head_keeps h) (sets_keep r) (counted h v l m) f.0) (or_left (leb 1 of) (eqb (length r) 0) (le-leb 1 of some)))
-      (le-leb (length (part_bytes (part_from z id moment of n r))) 1200 (omega arith))
-
-  parts_keep : (n : ℕ) (rs : List (List Set)) → n + length rs ≤ 65536 → ((r : List Set) → Memᴰ r rs → Fits r) → all_keep (parts_from z id moment of n rs) ≡ true
-  unfolding parts_from
-  parts_keep n [] l f = refl
-  parts_keep n (r ∷ rs) l f =
-      and_from (part_keeps (part_from z id moment of n r)) (all_keep (parts_from z id moment of (n + 1) rs)) (one_keeps n r (omega arith) (f r (Memᴰ.head refl)))
-      (parts_keep (n + 1) rs (omega arith) (λ q k. f q (Memᴰ.tail k)))
-
 -- ---- the parts of a zone whose sets fit
 
 module _ (z : Zone) (id moment : ℕ) (fit : EachFits z.sets) where
@@ -120,14 +104,28 @@ module _ (z : Zone) (id moment : ℕ) (fit : EachFits z.sets) where
       let e = ap (λ (q : Part). length (part_bytes q)) a.part_is in
       omega arith
 
+  -- where its sets keep the rules, so does all of it
   pub kept_part : version_keeps (part_from z id moment 1 1 []).head ≡ true → length z.sets ≤ 4096 → (p : Part) → Memᴰ p (split z id moment) → sets_keep p.sets ≡ true → part_keeps p ≡ true
   kept_part v few p m k =
       let a = among z id moment all p 1 (rows z.sets) m in
+      let h = (part_from z id moment all (1 + length a.front) a.row).head in
       let n = rows_many [] z.sets in
       let w = ap length a.whole in
       let c = length-append a.front (a.row ∷ a.back) in
-      ap part_keeps a.part_is
-      ∙ one_keeps z id moment all v (rows_some [] z.sets) (omega arith) (1 + length a.front) a.row (omega arith) (ap sets_keep (sym (ap (λ (q : Part). q.sets) a.part_is)) ∙ k, its p a)
+      let head = ap (λ (q : Part). head_keeps q.head) a.part_is ∙ counted h v (omega arith) (omega arith) in
+      let some = ap (λ (q : Part). q.head.of) a.part_is in
+      let r = rows_some [] z.sets in
+      let short = short_part p m in
+      and_from (head_keeps p.head && sets_keep p.sets && sets_belong p.head p.sets) (leb (length (part_bytes p)) 1200)
+      (and_from (head_keeps p.head && sets_keep p.sets) (sets_belong p.head p.sets) (and_from (head_keeps p.head) (sets_keep p.sets) head k) (or_left (leb 1 p.head.of) (eqb (length p.sets) 0) (le-leb 1 p.head.of (omega arith))))
+      (le-leb (length (part_bytes p)) 1200 short)
+
+  -- its sets are among the zone's
+  kept_sets : sets_keep z.sets ≡ true → (p : Part) → Memᴰ p (split z id moment) → sets_keep p.sets ≡ true
+  kept_sets k p m =
+      let a = among z id moment all p 1 (rows z.sets) m in
+      let parts : z.sets ≡ joint a.front ++ (a.row ++ joint a.back) = sym (rows_whole z.sets) ∙ ap joint a.whole ∙ joint_append a.front (a.row ∷ a.back) in
+      ap (λ (q : Part). sets_keep q.sets) a.part_is ∙ keep_front a.row (joint a.back) (keep_back (joint a.front) (a.row ++ joint a.back) (ap sets_keep (sym parts) ∙ k))
 
 -- ---- rows of sets that fit
 
@@ -169,14 +167,10 @@ module _ (laws : PacketLaws) where
       let z = length_none in
       omega arith
 
-  rows_fit : (ss : List Set) → sets_keep ss ≡ true → (r : List Set) → Memᴰ r (rows ss) → Fits r
-  rows_fit ss h r m =
-      (each_row (λ r. sets_keep r ≡ true) (λ s. set_keeps s ≡ true) (λ row s p k _. one_more row s p k) (λ s k. one_more [] s refl k) [] ss refl (λ s k. set_in ss s h k) r m, light_rows ss (alone ss h) r m)
-
-  fits : (z : Zone) (id moment : ℕ) → head_keeps (part_from z id moment 1 1 []).head ≡ true → sets_keep z.sets ≡ true → length z.sets ≤ 4096 → all_keep (split z id moment) ≡ true
-  fits z id moment h k l =
-      let m = rows_many [] z.sets in
-      parts_keep z id moment (length (rows z.sets)) (version (part_from z id moment 1 1 []).head h) (rows_some [] z.sets) (omega arith) 1 (rows z.sets) (omega arith) (rows_fit z.sets k)
+  fits : (z : Zone) (id moment : ℕ) → head_keeps (part_from z id moment 1 1 []).head ≡ true → sets_keep z.sets ≡ true → length z.sets ≤ 4096 → (p : Part) → Memᴰ p (split z id moment) → part_keeps p ≡ true
+  fits z id moment h k l p m =
+      let fit = alone z.sets k in
+      kept_part z id moment fit (version (part_from z id moment 1 1 []).head h) l p m (kept_sets z id moment fit k p m)
 
   pub split_laws : SplitLaws
   split_laws = record {

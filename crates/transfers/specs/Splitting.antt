@@ -1,5 +1,5 @@
 -- How a zone is cut into the parts of a transfer. Assumes nothing.
-use Rattle.std.specs.Prelude.{◌≡◌, ℕ, ◌+◌, ◌≤◌, ◌<◌, Bool, true, cond, ◌&&◌, List, [], ◌∷◌, ◌++◌, length, nat_le}
+use Rattle.std.specs.Prelude.{◌≡◌, ℕ, ◌+◌, ◌≤◌, ◌<◌, true, cond, List, [], ◌∷◌, ◌++◌, length, nat_le}
 use mathlib.Core.List.{Memᴰ}
 use Rattle.meaning.specs.Model.{Set, Zone}
 use Rattle.meaning.specs.Transfer.{transferred, all_transferred}
@@ -51,15 +51,11 @@ unfoldable pub all_sets : List Part → List Set
 all_sets [] = []
 all_sets (p ∷ ps) = p.sets ++ all_sets ps
 
-abbrev pub all_keep : List Part → Bool
-all_keep [] = true
-all_keep (p ∷ ps) = part_keeps p && all_keep ps
-
 pub record SplitLaws : Type 0 where
   -- the sets of all parts, one behind the other, are the zone's
   pub whole : (z : Zone) (id moment : ℕ) → all_sets (split z id moment) ≡ z.sets
   -- each part keeps the rules of packets: none is too long
-  pub fits : (z : Zone) (id moment : ℕ) → head_keeps (part_from z id moment 1 1 []).head ≡ true → sets_keep z.sets ≡ true → length z.sets ≤ 4096 → all_keep (split z id moment) ≡ true
+  pub fits : (z : Zone) (id moment : ℕ) → head_keeps (part_from z id moment 1 1 []).head ≡ true → sets_keep z.sets ≡ true → length z.sets ≤ 4096 → (p : Part) → Memᴰ p (split z id moment) → part_keeps p ≡ true
   -- each is as full as can be: with the first set of the next one it would be too long
   pub full : (z : Zone) (front back : List (List Set)) (a b : List Set) (s : Set) → rows z.sets ≡ front ++ a ∷ (s ∷ b) ∷ back → room < length (all_transferred (a ++ s ∷ []))
   -- sets that keep the rules fit, and so do those of every zone that is split

@@ -14,11 +14,11 @@ use cache::{Moment, QueryId};
 use names::Fault;
 use records::RecordSet;
 use std::alloc::Global;
-use wire::PartHead;
+use wire::{MAX_PACKET, PartHead};
 use zones::{Times, Zone};
 
-// A packet has 1,200 bytes, of which 41 stand before the sets.
-const ROOM: usize = 1159;
+// 41 bytes of a packet stand before the sets.
+const ROOM: usize = MAX_PACKET - 41;
 
 // A part as it is sent: no set is copied.
 #[derive(Clone, Copy)]
