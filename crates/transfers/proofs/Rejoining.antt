@@ -11,7 +11,7 @@ use Rattle.zones.specs.Valid.{valid}
 use Rattle.wire.specs.Cuts.{next}
 use Rattle.wire.specs.Parts.{Part}
 use Rattle.wire.specs.Shapes.{Times}
-use Rattle.transfers.specs.Splitting.{EachFits, rows, times_of, part_from, split, SplitLaws}
+use Rattle.transfers.specs.Splitting.{EachFits, rows, times_of, SplitLaws}
 use Rattle.transfers.specs.Joining.{joined, Joining, same_times, has_sets, is_counted, belongs_to, is_there, marked, none_there, is_complete, with_part, begun, begin, take, zone_in, take_all, join}
 use Rattle.transfers.specs.TransferLaws.{IsPart, AllCame, Rejoined}
 use Rattle.transfers.proofs.Rows.{joint, joint_append, rows_many, rows_whole}
