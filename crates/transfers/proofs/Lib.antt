@@ -1,3 +1,12 @@
 mod Searched
 mod Judging
 mod Together
+mod Rows
+mod Cutting
+mod Numbering
+mod Parting
+mod Orders
+mod Inserting
+mod Present
+mod Rejoining
+mod Taking
