@@ -26,6 +26,7 @@ pub fn cut_piece(bytes: &[u8]) -> Option<(&[u8], &[u8])>
 }
 
 // The name of a list's labels.
+#[inline(always)]
 pub fn name_in(list: &[u8]) -> Result<Name, Fault>
     ensures { (ls : List (List ℕ)) → list.now ≡ wire ls → given result ≡ name_of ls }
 {
@@ -33,6 +34,7 @@ pub fn name_in(list: &[u8]) -> Result<Name, Fault>
 }
 
 // The same, where the labels mostly are the first of those of another name: they are then not read once more.
+#[inline(always)]
 pub fn upper_name_in(list: &[u8], lower_list: &[u8], lower: &Name) -> Result<Name, Fault>
     ensures { (ls : List (List ℕ)) → list.now ≡ wire ls → lower_list.now ≡ wire (labels lower.now) → given result ≡ name_of ls }
 {

@@ -13,6 +13,7 @@ use records::Kind;
 
 impl QueryPacket {
     // What stands behind the first byte, to its end.
+    #[inline(always)]
     pub(crate) fn read(fields: &mut Fields) -> Result<QueryPacket, Fault>
         ensures { query_given result ≡ shaped query_in (query_shape (unread fields.old)) }
     {
