@@ -24,9 +24,8 @@ pub fn queries(heap: Global, questions: &[Question]) -> Result<Vec<Vec<u8>>, Fau
 // How many bytes are sent in answer to one query.
 fn serve(heap: Global, zone: &Zone, query: &[u8], out: &mut Vec<u8>) -> Result<u64, Fault> {
     out.clear();
-    let packet = Packet::read(heap, query)?;
-    if let Packet::Query(query) = &packet {
-        answer(zone, query, out)?;
+    if let Packet::Query(query) = Packet::read(heap, query)? {
+        answer(zone, &query, out)?;
     }
     Ok(out.len() as u64)
 }
