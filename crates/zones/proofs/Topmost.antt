@@ -368,15 +368,3 @@ module _ (apex : List (List ℕ)) (ss : List Set) (o : sorted ss ≡ true) (cs :
           let s : c ≡ d = cc in
           by_find (subst (λ y. within y q ≡ true) (sym s) w) (subst (λ y. Memᴰ y cs) (sym s) m) (find (is_exactly c 4) ss) (finds (is_exactly c 4) ss)
       by_cover x (uncovered h) f = let z : ◌≡◌ {A = ℕ} 0 1 = cc in absurd (omega arith)
-
--- of a name outside the apex none speaks
-pub none_outside : (apex : List (List ℕ)) (ss : List Set) → all_belong apex ss ≡ true → (q : List (List ℕ)) → within apex q ≡ false → None ≡ highest (is_over apex q) ss
-none_outside apex ss inside q f = go (highest (is_over apex q) ss) (finds_highest (is_over apex q) ss)
-  where
-    go : (y : Option Set) → Highest (is_over apex q) ss y → None ≡ y
-    go y (high t m p least) =
-        let a = and_parts (delegates t.kind && within t.name q) (ltb (length apex) (length t.name)) p in
-        let b = and_parts (delegates t.kind) (within t.name q) a.0 in
-        let c = and_parts (within apex t.name) (not (delegates t.kind && same t.name apex)) (belong_at apex ss inside t m) in
-        absurd (true≢false (sym (within_laws.transitive apex t.name q c.0 b.1) ∙ f))
-    go y (none_high never) = refl

@@ -5,20 +5,13 @@ ghost use Rattle.names.specs.Names.{labels};
 ghost use Rattle.names.specs.Order.{within};
 ghost use Rattle.meaning.specs.Says.{is_exactly, find, any_under};
 ghost use Rattle.records.specs.Sets.{set_of};
-ghost use Rattle.zones.specs.Sorted.{is_before_below, is_ahead_below, place, Narrowed};
+ghost use Rattle.zones.specs.Sorted.{is_before_below, place, Narrowed};
 ghost use Rattle.zones.specs.Zones.{sets_of};
 
 use super::SortedSets;
 use names::Name;
 use records::{Kind, RecordSet};
 use std::ops::Range;
-
-// Whether a set's name is before another, by the labels from a depth on.
-fn is_ahead(set: &RecordSet, name: &Name, depth: usize) -> bool
-    ensures { result ≡ is_ahead_below depth (labels name.now) (set_of set.now) }
-{
-    set.name().compare_below(name, depth).is_lt()
-}
 
 // Whether a set stands before a name and kind, by the labels from a depth on.
 pub fn is_before(set: &RecordSet, name: &Name, kind: Kind, depth: usize) -> bool
@@ -87,17 +80,6 @@ impl SortedSets {
         self.place_between(self.narrow(name), name, kind)
     }
 
-    // How many sets have names before a name.
-    fn first_at(&self, name: &Name) -> usize
-        ensures { result ≡ place (labels name.now) 0 (sets_of self.now) }
-    {
-        let places = self.narrow(name);
-        let depth = self.apex.label_count();
-        let start = places.start;
-        let alike = &self.sets.as_slice()[places];
-        start + alike.partition_point(|set| is_ahead(set, name, depth))
-    }
-
     // The set of a name and kind, by their place.
     pub fn find_at(&self, at: usize, name: &Name, kind: Kind) -> Option<&RecordSet>
         requires { at ≡ place (labels name.now) kind.number (sets_of self.now) }
@@ -112,13 +94,5 @@ impl SortedSets {
         ensures { option_map (λ s. set_of s.now) result ≡ find (is_exactly (labels name.now) kind.number) (sets_of self.now) }
     {
         self.find_at(self.position(name, kind), name, kind)
-    }
-
-    // Whether anything stands at a name or below it.
-    pub fn is_under(&self, name: &Name) -> bool
-        ensures { result ≡ any_under (labels name.now) (sets_of self.now) }
-    {
-        let first = self.sets.get(self.first_at(name));
-        first.is_some_and(|set| set.name().is_within(name))
     }
 }

@@ -1,8 +1,9 @@
 // What a zone says of a name and a kind, found by searches that halve.
-ghost use Rattle.std.specs.Prelude.{◌≡◌, map, length, MatchResult};
+ghost use Rattle.std.specs.Prelude.{◌≡◌, true, map, length, MatchResult};
 ghost use Rattle.std.specs.Option.{option_map};
 ghost use Rattle.names.specs.declared.fault.Fault.TheVariants.{NoMemory};
 ghost use Rattle.names.specs.Names.{labels};
+ghost use Rattle.names.specs.Order.{within};
 ghost use Rattle.meaning.specs.Laws.{is_hidden, hidden};
 ghost use Rattle.meaning.specs.Says.{is_over, highest, speaker, says, time_of};
 ghost use Rattle.meaning.specs.Transfer.{all_transferred};
@@ -24,17 +25,11 @@ impl Zone {
         self.sets.find(self.cuts.find(name)?, Kind::DELEGATION)
     }
 
-    // Outside the apex no set stands at the name and no delegation over it: all that is left is whether one is below it.
+    // Within the apex a delegation over the name speaks before all, else what stands at the name and below it.
     fn reply(&self, name: &Name, kind: Kind) -> Reply<'_>
+        requires { within (labels self.now.sets.apex) (labels name.now) ≡ true }
         ensures { speaker_of result ≡ speaker (zone_of self.now) (labels name.now) kind.number }
     {
-        if !name.is_within(self.sets.apex()) {
-            return if self.sets.is_under(name) {
-                Reply::NoData
-            } else {
-                Reply::NoName
-            };
-        }
         match self.find_delegation(name) {
             Some(set) => Reply::Referral(set),
             None => self.sets.reply_among(name, kind),
@@ -45,8 +40,10 @@ impl Zone {
     pub fn lookup(&self, name: &Name, kind: Kind) -> Option<Reply<'_>>
         ensures { option_map speaker_of result ≡ says (zone_of self.now) (labels name.now) kind.number }
     {
-        name.is_within(self.sets.apex())
-            .then(|| self.reply(name, kind))
+        if !name.is_within(self.sets.apex()) {
+            return None;
+        }
+        Some(self.reply(name, kind))
     }
 
     // For how many seconds a reply of this zone may be remembered.
