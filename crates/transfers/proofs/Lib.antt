@@ -1,3 +1,6 @@
 mod Searched
 mod Judging
 mod Together
+mod Marks
+mod Putting
+mod Taking

@@ -2,3 +2,5 @@
 #![tactic(auto)]
 
 mod joining;
+
+pub use joining::Joining;
