@@ -9,6 +9,8 @@ mod checking;
 mod parts;
 pub mod reading;
 pub mod taking;
+#[cfg(test)]
+mod tests;
 
 // Which parts of a version of a zone came, and the zone as far as they make it.
 #[derive(Drop)]
