@@ -14,16 +14,17 @@ use names::{Fault, Name};
 use records::RecordSet;
 use zones::{MAX_SETS, Zone};
 
+// Most names differ in length, which is seen at once.
 fn is_at(set: &RecordSet, name: &Name) -> bool
     ensures { result ≡ same (set_of set.now).name (labels name.now) }
 {
-    *set.name() == *name
+    set.name().wire_len() == name.wire_len() && *set.name() == *name
 }
 
 fn is_same(set: &RecordSet, other: &RecordSet) -> bool
     ensures { result ≡ is_exactly (set_of set.now).name (set_of set.now).kind (set_of other.now) }
 {
-    is_at(other, set.name()) && other.kind() == set.kind()
+    other.kind() == set.kind() && is_at(other, set.name())
 }
 
 // Whether another set has this one's name and kind.
@@ -37,7 +38,7 @@ fn stands(others: &[RecordSet], set: &RecordSet) -> bool
 fn clash(set: &RecordSet, other: &RecordSet) -> bool
     ensures { result ≡ clash (set_of set.now) (set_of other.now) }
 {
-    is_at(set, other.name()) && (set.kind().is_alias() || other.kind().is_alias())
+    (set.kind().is_alias() || other.kind().is_alias()) && is_at(set, other.name())
 }
 
 fn clashes(set: &RecordSet, others: &[RecordSet]) -> bool

@@ -1,4 +1,4 @@
-use Rattle.std.proofs.Common.{◌≡◌, false, [], inl, inr, map, Ok, Err, vec_items, refl, sym, ap, ◌∙◌, arith}
+use Rattle.std.proofs.Common.{◌≡◌, false, [], inl, inr, map, Ok, Err, vec_items, refl, sym, ap, ◌∙◌, rules, arith}
 use Rattle.std.proofs.lemmas.Result.{err_from_is_err_and}
 use Rattle.names.specs.Names.{labels}
 use Rattle.records.specs.Sets.{set_of}
@@ -31,8 +31,7 @@ returns-then-not-is_counted c =
     let p = part_of c.args.part in
     let slice = ap (map set_of) c.as_slice.ensures.value in
     let of = c.from-of.ensures in
-    let counted = c.if-not-is_counted.ensures in
-    inl (first_uncounted apex p (insert_all (map set_of c.as_slice.result.now) []) (judged_at apex apex [] (map set_of c.as_slice.result.now) p.sets (Ok (insert_all (map set_of c.as_slice.result.now) [])) refl slice c.in_ok-check_alone.ensures) (omega arith) (sym counted))
+    inl (first_uncounted apex p (insert_all (map set_of c.as_slice.result.now) []) (judged_at apex apex [] (map set_of c.as_slice.result.now) p.sets (Ok (insert_all (map set_of c.as_slice.result.now) [])) refl slice c.in_ok-check_alone.ensures) (omega arith) (search rules))
 
 pub invariant_of-joining : goal.invariant_of-joining
 invariant_of-joining c =
@@ -63,10 +62,9 @@ returns c =
     let p = part_of c.args.part in
     let slice = ap (map set_of) c.as_slice.ensures.value in
     let of = c.from-of.ensures in
-    let counted = c.if-not-is_counted.ensures in
     let items = c.in_ok-vec.ensures.items_if_clones_equal (λ y e. e) in
     let bs = vec_items c.in_ok-vec.field-0 in
     let new = at_first apex p (zone_of c.new.result) bs c.new.ensures (items ∙ none_yet c.from-of.result ∙ ap none_there c.from-of.ensures) in
     let alone = judged_at apex apex [] (map set_of c.as_slice.result.now) p.sets (Ok (insert_all (map set_of c.as_slice.result.now) [])) refl slice c.in_ok-check_alone.ensures in
     let h = c.in_ok-put.ensures in
-    first_put apex p (joining_from (zone_of c.new.result) p.head.moment bs) (joining_of c.put.new.self) (insert_all (map set_of c.as_slice.result.now) []) new alone h.0 (omega arith) (sym counted) h.1 h.2
+    first_put apex p (joining_from (zone_of c.new.result) p.head.moment bs) (joining_of c.put.new.self) (insert_all (map set_of c.as_slice.result.now) []) new alone h.0 (omega arith) (search rules) h.1 h.2

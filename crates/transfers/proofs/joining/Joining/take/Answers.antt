@@ -1,4 +1,4 @@
-use Rattle.std.proofs.Common.{◌≡◌, [], inl, map, Ok, Err, refl, sym, ap}
+use Rattle.std.proofs.Common.{◌≡◌, [], inl, map, Ok, Err, refl, ap, rules}
 use Rattle.std.proofs.lemmas.Result.{err_from_is_err_and}
 use Rattle.names.specs.Names.{labels}
 use Rattle.records.specs.Sets.{set_of}
@@ -14,24 +14,20 @@ returns-in_err-check_alone c =
     let p = part_of c.args.part in
     let r = err_from_is_err_and c.from_residual.result c.from_residual.ensures.1 in
     let slice = ap (map set_of) c.as_slice-sets.ensures.value in
-    let other = c.if-not-is_of_same.ensures in
-    rw (r.1, r.2) (inl (strange_refused p j c.in_err-check_alone.field-0.0 (sym other) (judged_at (labels c.apex.result.now) j.apex [] (map set_of c.as_slice-sets.result.now) p.sets (Err c.in_err-check_alone.field-0.0) c.apex.ensures slice c.in_err-check_alone.ensures), refl))
+    rw (r.1, r.2) (inl (strange_refused p j c.in_err-check_alone.field-0.0 (search rules) (judged_at (labels c.apex.result.now) j.apex [] (map set_of c.as_slice-sets.result.now) p.sets (Err c.in_err-check_alone.field-0.0) c.apex.ensures slice c.in_err-check_alone.ensures), refl))
 
 pub returns-then-not-is_of_same : goal.returns-then-not-is_of_same
 returns-then-not-is_of_same c =
     let j = joining_of c.args.self.now in
     let p = part_of c.args.part in
     let slice = ap (map set_of) c.as_slice-sets.ensures.value in
-    let other = c.if-not-is_of_same.ensures in
-    inl (strange p j (insert_all (map set_of c.as_slice-sets.result.now) []) (sym other) (judged_at (labels c.apex.result.now) j.apex [] (map set_of c.as_slice-sets.result.now) p.sets (Ok (insert_all (map set_of c.as_slice-sets.result.now) [])) c.apex.ensures slice c.in_ok-check_alone.ensures), refl)
+    inl (strange p j (insert_all (map set_of c.as_slice-sets.result.now) []) (search rules) (judged_at (labels c.apex.result.now) j.apex [] (map set_of c.as_slice-sets.result.now) p.sets (Ok (insert_all (map set_of c.as_slice-sets.result.now) [])) c.apex.ensures slice c.in_ok-check_alone.ensures), refl)
 
 pub returns-then-is_there : goal.returns-then-is_there
 returns-then-is_there c =
     let j = joining_of c.args.self.now in
     let p = part_of c.args.part in
-    let same = c.if-not-is_of_same.ensures in
-    let known = c.if-is_there.ensures in
-    by_judging p j c.check_alone-then-is_there.result (sym same) (sym known)
+    by_judging p j c.check_alone-then-is_there.result (search rules) (search rules)
     (judged_as (labels c.apex-then-is_there.result.now) j.apex [] (map set_of c.as_slice-sets.result.now) p.sets c.check_alone-then-is_there.result c.apex-then-is_there.ensures (ap (map set_of) c.as_slice-sets.ensures.value) c.check_alone-then-is_there.ensures)
 
 pub returns-in_err-check_beside : goal.returns-in_err-check_beside
@@ -40,15 +36,11 @@ returns-in_err-check_beside c =
     let p = part_of c.args.part in
     let r = err_from_is_err_and c.from_residual-in_err-check_beside.result c.from_residual-in_err-check_beside.ensures.1 in
     let slice = ap (map set_of) c.as_slice-sets.ensures.value in
-    let same = c.if-not-is_of_same.ensures in
-    let new = c.if-is_there.ensures in
-    rw (r.1, r.2) (inl (taken_refused p j c.in_err-check_beside.field-0.0 (sym same) (sym new) (judged_at j.apex j.apex j.sets (map set_of c.as_slice-sets.result.now) p.sets (Err c.in_err-check_beside.field-0.0) refl slice c.in_err-check_beside.ensures), refl))
+    rw (r.1, r.2) (inl (taken_refused p j c.in_err-check_beside.field-0.0 (search rules) (search rules) (judged_at j.apex j.apex j.sets (map set_of c.as_slice-sets.result.now) p.sets (Err c.in_err-check_beside.field-0.0) refl slice c.in_err-check_beside.ensures), refl))
 
 pub returns : goal.returns
 returns c =
     let j = joining_of c.args.self.now in
     let p = part_of c.args.part in
     let slice = ap (map set_of) c.as_slice-sets.ensures.value in
-    let same = c.if-not-is_of_same.ensures in
-    let new = c.if-is_there.ensures in
-    by_putting p j (joining_of c.put.new.self) (insert_all (map set_of c.as_slice-sets.result.now) j.sets) (judged_at j.apex j.apex j.sets (map set_of c.as_slice-sets.result.now) p.sets (Ok (insert_all (map set_of c.as_slice-sets.result.now) j.sets)) refl slice c.in_ok-check_beside.ensures) c.put.result (sym same) (sym new) c.put.ensures
+    by_putting p j (joining_of c.put.new.self) (insert_all (map set_of c.as_slice-sets.result.now) j.sets) (judged_at j.apex j.apex j.sets (map set_of c.as_slice-sets.result.now) p.sets (Ok (insert_all (map set_of c.as_slice-sets.result.now) j.sets)) refl slice c.in_ok-check_beside.ensures) c.put.result (search rules) (search rules) c.put.ensures
