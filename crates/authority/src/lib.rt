@@ -1,8 +1,10 @@
-// What a server says of its zone.
+// What a server says of its zone, and the packet by which it answers.
 #![tactic(auto)]
 
+mod answering;
 mod telling;
 
+pub use answering::answer;
 pub use telling::tell;
 
 #[cfg(test)]
@@ -41,7 +43,7 @@ mod tests {
             b"help.upperton",
             Kind::ALIAS,
             600,
-            Data::Alias(other),
+            Data::Alias(Box::new(heap, other)?),
         )?;
         let servers = vec![in heap; Address([0, 0, 0, 0, 0, 0, 0, 2])]?;
         let to = Data::Delegation(Delegation { servers });

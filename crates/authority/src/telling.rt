@@ -20,7 +20,7 @@ fn target(content: &Data) -> Name
     ensures { labels result ≡ target_of (content_of content.now) }
 {
     match content {
-        Data::Alias(name) => *name,
+        Data::Alias(name) => **name,
         _ => Name::root(),
     }
 }

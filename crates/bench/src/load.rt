@@ -86,7 +86,7 @@ fn put_all(heap: Global, zone: &mut Zone, plan: &Plan) -> Result<(), Fault> {
             zone,
             named(b'b', i)?,
             Kind::ALIAS,
-            Data::Alias(named(b'a', i)?),
+            Data::Alias(Box::new(heap, named(b'a', i)?)?),
         )?;
     }
     for i in 0..plan.delegations {

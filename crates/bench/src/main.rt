@@ -1,12 +1,13 @@
 // Counts what the service does, for a tool that counts instructions: `lookup SETS N` loads a zone of that many sets and asks
 // it N questions; `recall QUESTIONS N` lets a resolver learn so many questions and asks it N; `read SETS N` reads the text of a
-// zone of that many sets N times.
+// zone of that many sets N times; `serve SETS N` reads N queries, and answers each from a zone of that many sets.
 #![tactic(auto)]
 
 mod asking;
 mod load;
 mod reading;
 mod recall;
+mod serving;
 
 use asking::Question;
 use lines::number;
@@ -89,10 +90,21 @@ fn readings(rt: &HostRuntime, heap: Global, sets: u64, times: u64) -> io::Result
     println!(rt; "sets read {read}")
 }
 
+fn servings(rt: &HostRuntime, heap: Global, sets: u64, wanted: u64) -> io::Result<()> {
+    let none = |_| io::Error::other("nothing is served");
+    let plan = load::Plan::new(sets);
+    let made = load::zone(heap, &plan).map_err(none)?;
+    let questions = asking::mix(heap, &plan).map_err(none)?;
+    let queries = serving::queries(heap, questions.as_slice()).map_err(none)?;
+    let sent = serving::served(heap, &made, queries.as_slice(), wanted).map_err(none)?;
+    println!(rt; "bytes sent {sent}")
+}
+
 fn usage(rt: &HostRuntime) -> io::Result<()> {
     println!(rt; "usage: bench lookup SETS N")?;
     println!(rt; "       bench recall QUESTIONS N")?;
-    println!(rt; "       bench read SETS N")
+    println!(rt; "       bench read SETS N")?;
+    println!(rt; "       bench serve SETS N")
 }
 
 fn run(rt: &HostRuntime, heap: Global) -> io::Result<()> {
@@ -108,6 +120,7 @@ fn run(rt: &HostRuntime, heap: Global) -> io::Result<()> {
         "lookup" => lookups(rt, heap, size, wanted),
         "recall" => recalls(rt, heap, size, wanted),
         "read" => readings(rt, heap, size, wanted),
+        "serve" => servings(rt, heap, size, wanted),
         _ => usage(rt),
     }
 }

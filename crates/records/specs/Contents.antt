@@ -20,5 +20,5 @@ abbrev pub content_of : Data → Content
 content_of (rust.Addresses v) = model.Addresses (map bytes_of (vec_items v))
 content_of (rust.Texts v) = model.Texts (map vec_items (vec_items v))
 content_of (rust.Others v) = model.Others (map vec_items (vec_items v))
-content_of (rust.Alias n) = model.AliasOf (labels n)
+content_of (rust.Alias n) = model.AliasOf (labels n.value)
 content_of (rust.Delegation d) = model.Delegated (record { servers = map bytes_of (vec_items d.servers) })

@@ -16,6 +16,7 @@ pub enum Data {
     Addresses(Vec<Address>),
     Texts(Vec<Vec<u8>>),
     Others(Vec<Vec<u8>>),
-    Alias(Name),
+    // Beside the other data it would take much room in each set, whatever its kind.
+    Alias(Box<Name>),
     Delegation(Delegation),
 }

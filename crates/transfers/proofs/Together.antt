@@ -11,7 +11,7 @@ use Rattle.meaning.proofs.Rules.{same_so, so_same}
 use Rattle.zones.specs.Sorted.{is_before}
 use Rattle.zones.specs.Valid.{clash, clashes, no_clash, insert_set, added}
 use Rattle.zones.proofs.Insert.{insert_on, insert_here, insert_length, clash_turned, clashes_insert}
-use Rattle.wire.specs.Packets.{next}
+use Rattle.wire.specs.Cuts.{next}
 use Rattle.transfers.specs.Joining.{stands, any_outside, any_stands, any_twice, any_cut_at, any_clash, insert_all, added_all, joined}
 use Rattle.transfers.proofs.Searched.{any_found}
 use Rattle.transfers.proofs.Judging.{IsMisplaced, InConflict}

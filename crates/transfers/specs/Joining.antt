@@ -7,7 +7,7 @@ use Rattle.names.specs.Order.{within}
 use Rattle.meaning.specs.Model.{delegates, Set, Zone}
 use Rattle.meaning.specs.Says.{same, is_exactly, find}
 use Rattle.zones.specs.Valid.{clashes, no_clash, insert_set, added}
-use Rattle.wire.specs.Packets.{next}
+use Rattle.wire.specs.Cuts.{next}
 use Rattle.wire.specs.Parts.{Part}
 use Rattle.wire.specs.Shapes.{Times, Head}
 

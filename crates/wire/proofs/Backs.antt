@@ -9,9 +9,9 @@ use Rattle.names.specs.Names.{name_of}
 use Rattle.names.specs.Wire.{wire}
 use Rattle.meaning.specs.Model.{is_kind, pieces_fit}
 use Rattle.records.specs.Numbers.{kind_of}
-use Rattle.wire.specs.Cuts.{cut_byte, cut_number, cut_list, cut_list_if, cut_what, then, at_end}
+use Rattle.wire.specs.Cuts.{cut_byte, cut_number, cut_list, cut_list_if, cut_what, then, at_end, next}
 use Rattle.wire.specs.Shapes.{ResponseShape, names_one, query_shape, response_shape, request_shape, shape_of, shape_by}
-use Rattle.wire.specs.Packets.{Query, Told, Data, Alias, Referral, NoData, NoName, Nowhere, TooLong, Response, Request, IsQuery, IsResponse, IsRequest, next, query_in, told_in, allowed, response_in, request_in, packet_in, query_bytes, what_of, told_bytes, response_bytes, request_bytes, query_keeps, told_keeps, response_keeps, request_keeps}
+use Rattle.wire.specs.Packets.{Query, Told, Data, Alias, Referral, NoData, NoName, Nowhere, TooLong, Response, Request, IsQuery, IsResponse, IsRequest, query_in, told_in, allowed, response_in, request_in, packet_in, query_bytes, what_of, told_bytes, response_bytes, request_bytes, query_keeps, told_keeps, response_keeps, request_keeps}
 use Rattle.wire.proofs.Cutting.{one_number, list_back}
 use Rattle.wire.proofs.Sizes.{query_rules, response_rules, referral_rules, request_rules, query_fits, response_fits, request_fits}
 

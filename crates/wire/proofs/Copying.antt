@@ -1,11 +1,11 @@
 -- Pieces taken from their list one by one.
-use Rattle.std.proofs.Common.{◌≡◌, ℕ, suc, ◌<◌, Bool, true, false, ◌&&◌, eqb, leb, List, [], ◌∷◌, ◌++◌, length, take, drop, get_or, Some, None, Option, sym, refl, ap, ◌∙◌, append_assoc, append-nil, arith, length-append}
+use Rattle.std.proofs.Common.{◌≡◌, ℕ, suc, ◌+◌, ◌<◌, ◌≤◌, Bool, true, false, ◌&&◌, eqb, leb, List, [], ◌∷◌, ◌++◌, length, take, drop, get_or, map, Some, None, Option, sym, refl, ap, ◌∙◌, append_assoc, append-nil, arith, length-append}
 use Rattle.std.specs.List.{between}
 use Rattle.std.proofs.lemmas.Slice.{first_rest}
-use Rattle.std.proofs.lemmas.List.{take_at, drop_at, length-drop}
+use Rattle.std.proofs.lemmas.List.{take_at, drop_at, length-drop, take_more, take_all, map-append}
 use Rattle.std.proofs.lemmas.Bool.{cond-true, cond-false, le-leb, eq-eqb, and_from, and_parts, ne_eqb}
 use Rattle.names.specs.Wire.{wire_labels, wire, cut_label}
-use Rattle.wire.specs.Packets.{are_addresses}
+use Rattle.wire.specs.Parts.{are_addresses}
 
 some_so : {A : Type 0} (x y : A) → Some x ≡ Some y → x ≡ y
 some_so x y h = cc
@@ -111,6 +111,19 @@ some_addresses (p ∷ ps) qs h =
 
 pub one_address : (ps : List (List ℕ)) (p : List ℕ) → are_addresses ps ≡ true → length p ≡ 8 → are_addresses (ps ++ p ∷ []) ≡ true
 one_address ps p h e = some_addresses ps (p ∷ []) h ∙ and_from (eqb (length p) 8) true (eq-eqb (length p) 8 e) refl
+
+-- the items of a slice, those before i looked at
+module _ {X : Type 0} (bytes : X → List ℕ) (xs : List X) where
+  abbrev pub Sound : ℕ → Type 0
+  Sound i = are_addresses (map bytes (take i xs)) ≡ true
+
+  pub one_sound : (i : ℕ) (x : X) → Sound i → i < length xs → x ≡ get_or xs i x → length (bytes x) ≡ 8 → Sound (i + 1)
+  one_sound i x s l e n =
+      ap (λ ys. are_addresses (map bytes ys)) (take_more xs i x l ∙ ap (λ y. take i xs ++ y ∷ []) (sym e))
+      ∙ ap are_addresses (map-append bytes (take i xs) (x ∷ [])) ∙ one_address (map bytes (take i xs)) (bytes x) s n
+
+  pub all_sound : (i : ℕ) → Sound i → length xs ≤ i → are_addresses (map bytes xs) ≡ true
+  all_sound i s l = ap (λ ys. are_addresses (map bytes ys)) (sym (take_all i xs l)) ∙ s
 
 no_address : (p : List ℕ) (ps : List (List ℕ)) → (length p ≡ 8 → ⊥) → are_addresses (p ∷ ps) ≡ false
 no_address p ps h = ap (λ b. b && are_addresses ps) (ne_eqb (length p) 8 h)

@@ -13,11 +13,9 @@ use Rattle.records.specs.Sets.{set_of, set_given}
 use Rattle.names.proofs.Cutting.{cut_back}
 use Rattle.std.proofs.lemmas.List.{length-drop}
 use Rattle.std.specs.Int.{w32}
-use Rattle.wire.specs.Cuts.{cut_byte, cut_number, cut_list}
+use Rattle.wire.specs.Cuts.{cut_byte, cut_number, cut_list, then, next}
 use Rattle.wire.proofs.Undone.{then_undone, cut_undone, some_same}
-use Rattle.wire.specs.Cuts.{then}
 use Rattle.wire.specs.Shapes.{SetShape, cut_set, sets_upto, sets_in}
-use Rattle.wire.specs.Packets.{next}
 use Rattle.wire.specs.Parts.{last_name, alias_of, set_in, lower, with_set, with_sets, all_sets}
 use Rattle.std.specs.Prelude.{Vec}
 use Rattle.wire.specs.Sets.{sets_of, sets_given}

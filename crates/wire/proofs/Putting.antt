@@ -97,13 +97,14 @@ pub no_pieces : wire [] ≡ 0 ∷ []
 unfolding wire wire_labels
 no_pieces = refl
 
+-- a list of one piece
+pub one_piece : (p : List ℕ) → 1 ∷ (length p ∷ p) ≡ wire (p ∷ [])
+unfolding wire wire_labels
+one_piece p = ap (λ x. 1 ∷ (length p ∷ x)) (sym (append-nil p))
+
 -- ---- a whole packet
 
-module _ (due : List ℕ) (before after : Option (List ℕ)) (empty : before ≡ Some []) (put : after ≡ joined before due) where
-  whole : after ≡ short_enough due
-  unfolding joined
-  whole = put ∙ ap (λ o. joined o due) empty
-
+module _ (due : List ℕ) (after : Option (List ℕ)) (whole : after ≡ short_enough due) where
   some_so : (x y : List ℕ) → Some x ≡ Some y → x ≡ y
   some_so x y h = cc
 
@@ -120,3 +121,8 @@ module _ (due : List ℕ) (before after : Option (List ℕ)) (empty : before ≡
       go : (c : Bool) → leb (length due) 1200 ≡ c → 1200 < length due
       go true e = let k : ◌≡◌ {A = Option (List ℕ)} None (Some due) = h ∙ whole ∙ cond-true (leb (length due) 1200) (Some due) None e in cc
       go false e = leb-false (length due) 1200 e
+
+-- from nothing
+pub all_new : (before after : Option (List ℕ)) (due : List ℕ) → before ≡ Some [] → after ≡ joined before due → after ≡ short_enough due
+unfolding joined
+all_new before after due empty put = put ∙ ap (λ o. joined o due) empty

@@ -4,8 +4,9 @@ use Rattle.std.proofs.lemmas.Bool.{eqb-true, eq-eqb, cond-true, cond-false, le-l
 use Rattle.std.specs.Option.{option_map}
 use Rattle.names.specs.declared.fault.Fault.TheVariants.{Malformed}
 use Rattle.wire.specs.Given.{shaped}
-use Rattle.wire.specs.Packets.{IsQuery, IsResponse, IsRequest, query_in, response_in, request_in, packet_as, judged, packet_in}
-use Rattle.wire.specs.Shapes.{QueryShape, ResponseShape, RequestShape, QueryShaped, ResponseShaped, RequestShaped, query_shape, response_shape, request_shape, shape_by, shape_of}
+use Rattle.wire.specs.Packets.{IsQuery, IsResponse, IsRequest, IsPart, query_in, response_in, request_in, packet_as, judged, packet_in}
+use Rattle.wire.specs.Parts.{part_in}
+use Rattle.wire.specs.Shapes.{QueryShape, ResponseShape, RequestShape, PartShape, QueryShaped, ResponseShaped, RequestShaped, PartShaped, query_shape, response_shape, request_shape, part_shape, shape_by, shape_of}
 use Rattle.wire.specs.Cuts.{cut_byte, then, at_end}
 
 pub ends : {A : Type 0} (x : A) (bs : List ℕ) → eqb (length bs) 0 ≡ true → at_end x bs ≡ Some x
@@ -57,13 +58,16 @@ module _ (bs : List ℕ) (short : length bs ≤ 1200) where
         go None = refl
         go (Some s) = refl
 
+    pub part_first : b ≡ 4 → packet_in bs ≡ packet_as IsPart (shaped part_in (part_shape rest))
+    part_first e = by_first b rest cut ∙ ap (λ n. judged (shape_by n rest)) e ∙ go (part_shape rest)
+      where
+        go : (o : Option PartShape) → judged (option_map PartShaped o) ≡ packet_as IsPart (shaped part_in o)
+        go None = refl
+        go (Some s) = refl
+
 pub too_long : (bs : List ℕ) → 1200 < length bs → packet_in bs ≡ Err Malformed
 too_long bs h = ap judged (cond-false (leb (length bs) 1200) (then (cut_byte bs) shape_by) None (lt-leb (length bs) 1200 h))
 
 -- no other kind is there
-pub no_kind : (b : ℕ) (rest : List ℕ) → (b ≡ 1 → ⊥) → (b ≡ 2 → ⊥) → (b ≡ 3 → ⊥) → judged (shape_by b rest) ≡ Err Malformed
-no_kind b rest f g h =
-    ap judged
-    (cond-false (eqb b 1) (option_map QueryShaped (query_shape rest)) (cond (eqb b 2) (option_map ResponseShaped (response_shape rest)) (cond (eqb b 3) (option_map RequestShaped (request_shape rest)) None)) (ne_eqb b 1 f)
-    ∙ cond-false (eqb b 2) (option_map ResponseShaped (response_shape rest)) (cond (eqb b 3) (option_map RequestShaped (request_shape rest)) None) (ne_eqb b 2 g)
-    ∙ cond-false (eqb b 3) (option_map RequestShaped (request_shape rest)) None (ne_eqb b 3 h))
+pub no_kind : (b : ℕ) (rest : List ℕ) → (b ≡ 1 → ⊥) → (b ≡ 2 → ⊥) → (b ≡ 3 → ⊥) → (b ≡ 4 → ⊥) → judged (shape_by b rest) ≡ Err Malformed
+no_kind b rest f g h k = rw (ne_eqb b 1 f, ne_eqb b 2 g, ne_eqb b 3 h, ne_eqb b 4 k)

@@ -14,9 +14,9 @@ use Rattle.meaning.specs.Model.{delegates, plain, fits, Content, Addresses, Text
 use Rattle.meaning.specs.Transfer.{pieces, transferred, all_transferred}
 use Rattle.meaning.proofs.Carried.{length_transferred}
 use Rattle.records.proofs.Weighed.{one_wire}
-use Rattle.wire.specs.Parts.{head_bytes, part_bytes, content_keeps, set_keeps}
+use Rattle.wire.specs.Parts.{head_bytes, part_bytes, content_keeps, set_keeps, are_addresses}
 use Rattle.wire.specs.Shapes.{Head}
-use Rattle.wire.specs.Packets.{Query, Told, Data, Alias, Referral, NoData, NoName, Nowhere, TooLong, Response, Request, few, are_addresses, query_bytes, what_of, told_bytes, response_bytes, request_bytes, query_keeps, told_keeps, response_keeps, request_keeps}
+use Rattle.wire.specs.Packets.{Query, Told, Data, Alias, Referral, NoData, NoName, Nowhere, TooLong, Response, Request, few, query_bytes, what_of, told_bytes, response_bytes, request_bytes, query_keeps, told_keeps, response_keeps, request_keeps}
 
 pub name_short : (ls : List (List ℕ)) → proper ls ≡ true → length (wire ls) ≤ 257
 name_short ls h =
@@ -167,7 +167,7 @@ few_addresses ps few h =
     let a = addresses_weigh ps h in
     omega arith
 
-content_short : (k : ℕ) (c : Content) → fits k c ≡ true → content_keeps c ≡ true → length (wire_labels (pieces c)) ≤ 616
+pub content_short : (k : ℕ) (c : Content) → fits k c ≡ true → content_keeps c ≡ true → length (wire_labels (pieces c)) ≤ 616
 content_short k (Addresses ps) h s = few_addresses ps (leb-true (length ps) 16 (and_parts (eqb k 1) (leb (length ps) 16) h).1) s
 content_short k (Texts ps) h s = fit_wire ps (and_parts (eqb k 2) (pieces_fit ps) h).1
 content_short k (Others ps) h s = fit_wire ps (and_parts (plain k) (pieces_fit ps) h).1

@@ -6,7 +6,8 @@ use Rattle.names.specs.declared.fault.Fault.TheVariants.{BadData}
 use Rattle.wire.specs.declared.response.ResponsePacket.{ResponsePacket}
 use Rattle.wire.specs.Given.{Reads}
 use Rattle.wire.specs.Responses.{response_of, response_given}
-use Rattle.wire.specs.Packets.{Response, Told, Data, Referral, bare, are_addresses, told_in}
+use Rattle.wire.specs.Parts.{are_addresses}
+use Rattle.wire.specs.Packets.{Response, Told, Data, Referral, bare, told_in}
 
 ok_so : {A : Type 0} (x y : A) → ◌≡◌ {A = Result A Fault} (Ok x) (Ok y) → x ≡ y
 ok_so x y h = cc

@@ -13,9 +13,10 @@ use Rattle.names.specs.Wire.{wire}
 use Rattle.names.proofs.Cutting.{cut_back}
 use Rattle.meaning.specs.Model.{is_kind, pieces_fit}
 use Rattle.records.specs.Numbers.{kind_of}
-use Rattle.wire.specs.Cuts.{cut_byte, cut_number, cut_list, cut_list_if, cut_what, then, at_end}
+use Rattle.wire.specs.Cuts.{cut_byte, cut_number, cut_list, cut_list_if, cut_what, then, at_end, next}
 use Rattle.wire.specs.Shapes.{QueryShape, ResponseShape, RequestShape, names_one, query_shape, response_shape, request_shape}
-use Rattle.wire.specs.Packets.{Query, Told, Data, Alias, Referral, NoData, NoName, Nowhere, TooLong, Response, Request, next, query_in, told_in, allowed, response_in, request_in, few, are_addresses, placed, query_bytes, what_of, told_bytes, response_bytes, request_bytes, query_keeps, told_keeps, response_keeps, request_keeps}
+use Rattle.wire.specs.Parts.{are_addresses}
+use Rattle.wire.specs.Packets.{Query, Told, Data, Alias, Referral, NoData, NoName, Nowhere, TooLong, Response, Request, query_in, told_in, allowed, response_in, request_in, few, placed, query_bytes, what_of, told_bytes, response_bytes, request_bytes, query_keeps, told_keeps, response_keeps, request_keeps}
 use Rattle.wire.specs.Laws.{are_bytes}
 use Rattle.wire.proofs.Copying.{same_pair}
 

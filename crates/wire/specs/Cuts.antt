@@ -1,6 +1,7 @@
 -- What is cut off the front of a packet: numbers, and lists of pieces behind their lengths. Assumes nothing.
-use Rattle.std.specs.Prelude.{ℕ, Bool, cond, ◌&&◌, List, [], ◌∷◌, length, take, drop, Some, None, Option, nat_le}
+use Rattle.std.specs.Prelude.{ℕ, Bool, cond, ◌&&◌, List, [], ◌∷◌, length, take, drop, Some, None, Ok, Err, Option, Result, nat_le}
 use Rattle.std.specs.Int.{Width, byte_len, from_be_bytes}
+use Rattle.names.specs.declared.fault.Fault.{Fault}
 use Rattle.names.specs.Wire.{cut_labels}
 
 -- ---- each with what follows it, unless the bytes are cut short
@@ -27,6 +28,11 @@ cut_list_if b bs = cond b (cut_list bs) (Some ([], bs))
 unfoldable pub then : {A B : Type 0} → Option (A × List ℕ) → (A → List ℕ → Option B) → Option B
 then None f = None
 then (Some p) f = f p.0 p.1
+
+-- what was cut off, judged step by step
+unfoldable pub next : {A B : Type 0} → Result A Fault → (A → Result B Fault) → Result B Fault
+next (Ok x) f = f x
+next (Err e) f = Err e
 
 -- what a response is: a number from 1 to 7
 unfoldable pub cut_what : List ℕ → Option (ℕ × List ℕ)

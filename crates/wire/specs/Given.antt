@@ -1,5 +1,5 @@
 -- What the code's packets stand for, and what it is to read and to write one.
-use Rattle.std.specs.Prelude.{◌≡◌, ℕ, ◌⊎◌, cond, List, ◌++◌, length, Some, None, Ok, Err, Option, Result, nat_le}
+use Rattle.std.specs.Prelude.{◌≡◌, ℕ, ◌<◌, ◌≤◌, ◌⊎◌, cond, List, ◌++◌, length, drop, Some, None, Ok, Err, Option, Result, nat_le}
 use Rattle.names.specs.declared.fault.Fault.{Fault}
 use Rattle.names.specs.declared.fault.Fault.TheVariants.{NoMemory, Malformed}
 use Rattle.names.specs.Names.{labels}
@@ -32,6 +32,16 @@ short_enough bs = cond (nat_le (length bs) 1200) (Some bs) None
 unfoldable pub joined : Option (List ℕ) → List ℕ → Option (List ℕ)
 joined None bs = None
 joined (Some front) bs = short_enough (front ++ bs)
+
+-- all of it behind what is there, or nothing: where memory ends, or where it is too long for a packet
+abbrev pub Writes : List ℕ → List ℕ → Result Unit Fault → List ℕ → Type 0
+Writes before due (Ok u) after = (length due ≤ 1200) × (after ≡ before ++ due)
+Writes before due (Err f) after = (after ≡ before) × ((f ≡ NoMemory) ⊎ ((f ≡ Malformed) × (1200 < length due)))
+
+-- at the front of the free bytes, which stay as they are where there is no room
+abbrev pub Fills : List ℕ → List ℕ → Option ℕ → List ℕ → Type 0
+Fills before due (Some n) after = (n ≡ length due) × (length due ≤ 1200) × (after ≡ due ++ drop n before)
+Fills before due None after = (after ≡ before) × ((1200 < length due) ⊎ (length before < length due))
 
 -- ---- queries
 

@@ -12,3 +12,4 @@ pub mod Requests
 pub mod Readings
 pub mod Sets
 pub mod Heads
+pub mod Replies

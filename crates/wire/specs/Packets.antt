@@ -9,7 +9,9 @@ use Rattle.names.specs.Order.{within}
 use Rattle.names.specs.Wire.{wire}
 use Rattle.meaning.specs.Model.{is_kind, pieces_fit}
 use Rattle.records.specs.Numbers.{kind_of}
-use Rattle.wire.specs.Shapes.{QueryShape, ResponseShape, RequestShape, Shape, QueryShaped, ResponseShaped, RequestShaped, shape_of}
+use Rattle.wire.specs.Cuts.{next}
+use Rattle.wire.specs.Shapes.{QueryShape, ResponseShape, RequestShape, Shape, QueryShaped, ResponseShaped, RequestShaped, PartShaped, shape_of}
+use Rattle.wire.specs.Parts.{Part, are_addresses, part_in, part_bytes, part_keeps}
 
 pub record Query : Type 0 where
   pub id : ℕ
@@ -42,12 +44,9 @@ pub data Packet : Type 0 where
   IsQuery : (query : Query) → Packet
   IsResponse : (response : Response) → Packet
   IsRequest : (request : Request) → Packet
+  IsPart : (part : Part) → Packet
 
 -- ---- what a shape says
-
-unfoldable pub next : {A B : Type 0} → Result A Fault → (A → Result B Fault) → Result B Fault
-next (Ok x) f = f x
-next (Err e) f = Err e
 
 -- a query's name lies within its apex
 abbrev pub query_from : ℕ → List (List ℕ) → ℕ → List (List ℕ) → Result Query Fault
@@ -58,11 +57,6 @@ query_in s =
     next (name_of s.apex) (λ apex.
     next (kind_of s.kind) (λ kind.
     next (name_of s.name) (λ name. query_from s.id apex kind name)))
-
--- each an address of 8 bytes
-abbrev pub are_addresses : List (List ℕ) → Bool
-are_addresses [] = true
-are_addresses (p ∷ ps) = length p == 8 && are_addresses ps
 
 -- what is told without data
 abbrev pub bare : ℕ → List (List ℕ) → Told
@@ -118,6 +112,7 @@ judged None = Err Malformed
 judged (Some (QueryShaped s)) = packet_as IsQuery (query_in s)
 judged (Some (ResponseShaped s)) = packet_as IsResponse (response_in s)
 judged (Some (RequestShaped s)) = packet_as IsRequest (request_in s)
+judged (Some (PartShaped s)) = packet_as IsPart (part_in s)
 
 -- first the shape of the whole packet, then the lowest of its other faults
 abbrev pub packet_in : List ℕ → Result Packet Fault
@@ -157,6 +152,7 @@ abbrev pub packet_bytes : Packet → List ℕ
 packet_bytes (IsQuery q) = query_bytes q
 packet_bytes (IsResponse r) = response_bytes r
 packet_bytes (IsRequest r) = request_bytes r
+packet_bytes (IsPart p) = part_bytes p
 
 -- ---- the rules that a packet keeps
 
@@ -182,3 +178,4 @@ abbrev pub keeps : Packet → Bool
 keeps (IsQuery q) = query_keeps q
 keeps (IsResponse r) = response_keeps r
 keeps (IsRequest r) = request_keeps r
+keeps (IsPart p) = part_keeps p

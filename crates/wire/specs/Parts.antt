@@ -1,5 +1,5 @@
 -- Parts of transfers: what their bytes say, and the bytes of each. Assumes nothing.
-use Rattle.std.specs.Prelude.{ℕ, ◌^◌, Bool, true, false, cond, ◌&&◌, List, [], ◌∷◌, ◌++◌, length, Some, None, Ok, Err, Option, Result, ◌==◌, nat_le, nat_lt}
+use Rattle.std.specs.Prelude.{ℕ, ◌^◌, Bool, true, false, cond, ◌&&◌, ◌||◌, List, [], ◌∷◌, ◌++◌, length, Some, None, Ok, Err, Option, Result, ◌==◌, nat_le, nat_lt}
 use Rattle.std.specs.Int.{w16, w32, w64, to_be_bytes}
 use Rattle.names.specs.declared.fault.Fault.{Fault}
 use Rattle.names.specs.declared.fault.Fault.TheVariants.{BadData, StaleSerial}
@@ -11,14 +11,19 @@ use Rattle.meaning.specs.Model.{is_kind, is_serial, delegates, aliases, Content,
 use Rattle.meaning.specs.Transfer.{all_transferred}
 use Rattle.records.specs.Numbers.{kind_of}
 use Rattle.records.specs.Sets.{set_from}
+use Rattle.wire.specs.Cuts.{next}
 use Rattle.wire.specs.Shapes.{SetShape, Times, Head, PartShape}
-use Rattle.wire.specs.Packets.{next, are_addresses}
 
 pub record Part : Type 0 where
   pub head : Head
   pub sets : List Set
 
 -- ---- what the sets of a part say
+
+-- each an address of 8 bytes
+abbrev pub are_addresses : List (List ℕ) → Bool
+are_addresses [] = true
+are_addresses (p ∷ ps) = length p == 8 && are_addresses ps
 
 abbrev pub addresses_from : (List (List ℕ) → Content) → List (List ℕ) → Result Content Fault
 addresses_from f ps = cond (are_addresses ps) (Ok (f ps)) (Err BadData)
@@ -113,6 +118,10 @@ abbrev pub sets_keep : List Set → Bool
 sets_keep [] = true
 sets_keep (s ∷ ss) = set_keeps s && sets_keep ss
 
+-- a part of none has no sets
+abbrev pub sets_belong : Head → List Set → Bool
+sets_belong h ss = nat_le 1 h.of || length ss == 0
+
 -- as many sets as fit
 abbrev pub part_keeps : Part → Bool
-part_keeps p = head_keeps p.head && sets_keep p.sets && nat_le (length (part_bytes p)) 1200
+part_keeps p = head_keeps p.head && sets_keep p.sets && sets_belong p.head p.sets && nat_le (length (part_bytes p)) 1200

@@ -52,6 +52,7 @@ pub data Shape : Type 0 where
   QueryShaped : (query : QueryShape) → Shape
   ResponseShaped : (response : ResponseShape) → Shape
   RequestShaped : (request : RequestShape) → Shape
+  PartShaped : (part : PartShape) → Shape
 
 -- ---- the four kinds, each behind its first byte
 
@@ -113,8 +114,12 @@ cut_head bs =
     then (cut_number w16 r5) (λ of r6.
     Some (record { id = id; serial = serial; moment = moment; times = times; part = part; of = of }, r6)))))))
 
+-- a part of none tells that there is nothing newer: no set stands behind it
+abbrev pub sets_behind : Head → List ℕ → Option (List SetShape)
+sets_behind h bs = cond (h.of == 0) (at_end [] bs) (sets_in bs)
+
 unfoldable pub part_shape : List ℕ → Option PartShape
-part_shape bs = then (cut_head bs) (λ head rest. option_map (λ ss. record { head = head; sets = ss }) (sets_in rest))
+part_shape bs = then (cut_head bs) (λ head rest. option_map (λ ss. record { head = head; sets = ss }) (sets_behind head rest))
 
 -- ---- any of them, by its first byte
 
@@ -122,7 +127,8 @@ abbrev pub shape_by : ℕ → List ℕ → Option Shape
 shape_by n bs =
     cond (n == 1) (option_map QueryShaped (query_shape bs))
     (cond (n == 2) (option_map ResponseShaped (response_shape bs))
-    (cond (n == 3) (option_map RequestShaped (request_shape bs)) None))
+    (cond (n == 3) (option_map RequestShaped (request_shape bs))
+    (cond (n == 4) (option_map PartShaped (part_shape bs)) None)))
 
 -- a packet has at most 1,200 bytes
 abbrev pub shape_of : List ℕ → Option Shape

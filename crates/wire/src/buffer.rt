@@ -3,14 +3,18 @@ ghost use Rattle.std.specs.Prelude.{◌≡◌, ◌<◌, ◌≤◌, true, [], ◌
 ghost use Rattle.meaning.specs.Model.{pieces_fit};
 ghost use Rattle.records.specs.Contents.{bytes_of};
 ghost use Rattle.std.specs.Int.{w16, w32, w64, to_be_bytes};
-ghost use Rattle.std.specs.Option.{option_map};
 ghost use Rattle.names.specs.Names.{labels};
 ghost use Rattle.names.specs.Wire.{wire};
 ghost use Rattle.wire.specs.Given.{written, joined};
+ghost use Rattle.wire.specs.Parts.{are_addresses};
 
 use arrayvec::ArrayVec;
 use names::Name;
 use records::{Address, Kind};
+
+pub mod copying;
+pub mod front;
+pub mod sets;
 
 pub const MAX_PACKET: usize = 1200;
 
@@ -28,17 +32,6 @@ impl Buffer {
         Buffer {
             bytes: ArrayVec::new(),
             overflown: false,
-        }
-    }
-
-    // The packet, unless it is too long.
-    pub fn packet(&self) -> Option<&[u8]>
-        ensures { option_map (λ x. x.now) result ≡ written self.now }
-    {
-        if self.overflown {
-            None
-        } else {
-            Some(self.bytes.as_slice())
         }
     }
 
@@ -82,6 +75,7 @@ impl Buffer {
     }
 
     // A piece behind its length.
+    #[tactic(auto, using(crate::proofs::Putting::joined_more))]
     pub fn piece(&mut self, piece: &[u8])
         requires { length piece.now < 256 }
         ensures { written self.new ≡ joined (written self.old) (length piece.now ∷ piece.now) }
@@ -115,13 +109,21 @@ impl Buffer {
         }
     }
 
+    fn address(&mut self, address: &Address)
+        ensures put { written self.new ≡ joined (written self.old) (length (bytes_of address.now) ∷ bytes_of address.now) }
+        ensures kept { length (bytes_of address.now) ≡ 8 }
+    {
+        self.piece(&address.0);
+    }
+
     pub fn addresses(&mut self, addresses: &[Address])
         requires { length addresses.now ≤ 16 }
-        ensures { written self.new ≡ joined (written self.old) (wire (map bytes_of addresses.now)) }
+        ensures put { written self.new ≡ joined (written self.old) (wire (map bytes_of addresses.now)) }
+        ensures kept { are_addresses (map bytes_of addresses.now) ≡ true }
     {
         self.byte(addresses.len() as u8);
         for address in addresses {
-            self.piece(&address.0);
+            self.address(address);
         }
     }
 }

@@ -48,6 +48,7 @@ impl<'a> Fields<'a> {
         Some(byte)
     }
 
+    #[tactic(auto, using(crate::proofs::Cutting::no_number, crate::proofs::Cutting::one_number))]
     pub fn number_2(&mut self) -> Option<u16>
         ensures { TakesNumber (cut_number w16 (unread self.old)) (unread self.old) result (unread self.new) }
     {
@@ -58,6 +59,7 @@ impl<'a> Fields<'a> {
         Some(u16::from_be_bytes(*bytes))
     }
 
+    #[tactic(auto, using(crate::proofs::Cutting::no_number, crate::proofs::Cutting::one_number))]
     pub fn number_4(&mut self) -> Option<u32>
         ensures { TakesNumber (cut_number w32 (unread self.old)) (unread self.old) result (unread self.new) }
     {
@@ -68,6 +70,7 @@ impl<'a> Fields<'a> {
         Some(u32::from_be_bytes(*bytes))
     }
 
+    #[tactic(auto, using(crate::proofs::Cutting::no_number, crate::proofs::Cutting::one_number))]
     pub fn number_8(&mut self) -> Option<u64>
         ensures { TakesNumber (cut_number w64 (unread self.old)) (unread self.old) result (unread self.new) }
     {

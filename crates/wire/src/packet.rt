@@ -1,12 +1,13 @@
 // Any packet, by its first byte.
 ghost use Rattle.std.specs.Prelude.{◌≡◌};
-ghost use Rattle.wire.specs.Given.{Reads, written, joined};
+ghost use Rattle.wire.specs.Given.{Reads, written, joined, Writes, Fills};
 ghost use Rattle.wire.specs.Packets.{packet_in, packet_bytes};
-ghost use Rattle.wire.specs.Readings.{packet_of, Writes, Fills};
+ghost use Rattle.wire.specs.Readings.{packet_of};
 ghost use Rattle.wire.specs.Laws.{PacketLaws};
 
 use crate::buffer::{Buffer, MAX_PACKET};
 use crate::fields::Fields;
+use crate::part::{self, PartPacket};
 use crate::query::{self, QueryPacket};
 use crate::request::{self, RequestPacket};
 use crate::response::{self, ResponsePacket};
@@ -18,6 +19,7 @@ pub enum Packet {
     Query(QueryPacket),
     Response(ResponsePacket),
     Request(RequestPacket),
+    Part(PartPacket),
 }
 
 impl Packet {
@@ -33,6 +35,7 @@ impl Packet {
             Some(query::FIRST) => Ok(Packet::Query(QueryPacket::read(&mut fields)?)),
             Some(response::FIRST) => Ok(Packet::Response(ResponsePacket::read(heap, &mut fields)?)),
             Some(request::FIRST) => Ok(Packet::Request(RequestPacket::read(&mut fields)?)),
+            Some(part::FIRST) => Ok(Packet::Part(PartPacket::read(heap, &mut fields)?)),
             _ => Err(Fault::Malformed),
         }
     }
@@ -44,6 +47,7 @@ impl Packet {
             Packet::Query(query) => query.put(out),
             Packet::Response(response) => response.put(out),
             Packet::Request(request) => request.put(out),
+            Packet::Part(part) => part.put(out),
         }
     }
 
@@ -53,11 +57,7 @@ impl Packet {
     {
         let mut buffer = Buffer::new();
         self.put(&mut buffer);
-        let Some(packet) = buffer.packet() else {
-            return Err(Fault::Malformed);
-        };
-        out.extend_from_slice(packet)?;
-        Ok(())
+        buffer.append_to(out)
     }
 
     // Writes it to the front of the free bytes, and gives how many it takes; without room they stay as they are.
@@ -66,15 +66,7 @@ impl Packet {
     {
         let mut buffer = Buffer::new();
         self.put(&mut buffer);
-        let Some(packet) = buffer.packet() else {
-            return None;
-        };
-        let len = packet.len();
-        if len > free.len() {
-            return None;
-        }
-        free[..len].copy_from_slice(packet);
-        Some(len)
+        buffer.copy_to(free)
     }
 }
 

@@ -4,6 +4,9 @@ use records::{RecordSet, Serial};
 use zones::Times;
 
 pub mod reading;
+pub mod writing;
+
+pub const FIRST: u8 = 4;
 
 // What stands before the sets: to which request it belongs, of which zone it is, and which part of how many.
 #[derive(Clone, Copy)]

@@ -4,7 +4,7 @@ ghost use Rattle.names.specs.declared.fault.Fault.TheVariants.{BadData};
 ghost use Rattle.names.specs.Wire.{wire};
 ghost use Rattle.records.specs.Contents.{bytes_of};
 ghost use Rattle.wire.specs.Given.{Reads};
-ghost use Rattle.wire.specs.Packets.{are_addresses};
+ghost use Rattle.wire.specs.Parts.{are_addresses};
 
 use crate::fields::cut_piece;
 use names::Fault;

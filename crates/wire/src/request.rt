@@ -45,6 +45,7 @@ impl RequestPacket {
         })
     }
 
+    #[tactic(auto, using(crate::proofs::Putting::joined_more), unfolding(crate::specs::Packets::request_bytes))]
     pub(crate) fn put(&self, out: &mut Buffer)
         ensures { written out.new ≡ joined (written out.old) (request_bytes (request_of self.now)) }
     {

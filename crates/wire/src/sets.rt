@@ -48,7 +48,7 @@ fn data(heap: Global, kind: Kind, list: &[u8]) -> Result<Data, Fault>
         let servers = addresses(heap, list)?;
         Ok(Data::Delegation(Delegation { servers }))
     } else if kind.is_alias() {
-        Ok(Data::Alias(alias(list)?))
+        Ok(Data::Alias(Box::new(heap, alias(list)?)?))
     } else {
         Ok(Data::Others(pieces(heap, list)?))
     }

@@ -1,8 +1,8 @@
 -- What may come into a zone, and the zone with it.
-use Rattle.std.proofs.Common.{◌≡◌, ℕ, ◌+◌, ◌*◌, ◌≤◌, Bool, true, false, cond, not, ◌&&◌, eqb, leb, List, ◌∷◌, ◌++◌, map, length, take, drop, is_some, Ok, Err, Option, Result, sym, refl, ap, ◌∙◌, true≢false, arith}
+use Rattle.std.proofs.Common.{◌≡◌, ℕ, ◌+◌, ◌*◌, ◌≤◌, Bool, true, false, cond, not, ◌&&◌, eqb, leb, List, [], ◌∷◌, ◌++◌, map, length, take, drop, is_some, Ok, Err, Option, Result, sym, refl, ap, ◌∙◌, true≢false, arith}
 use Rattle.std.specs.List.{insert}
 use Rattle.std.proofs.lemmas.List.{map-append, take-map, drop-map}
-use Rattle.std.proofs.lemmas.Bool.{cond-true, and_from, not_from_false, leb-false, eq-eqb}
+use Rattle.std.proofs.lemmas.Bool.{and_from, not_from_false, leb-false, eq-eqb}
 use Rattle.names.specs.declared.fault.Fault.{Fault}
 use Rattle.names.specs.declared.fault.Fault.TheVariants.{Misplaced, Conflict, TooMuch}
 use Rattle.names.specs.Fronts.{front_below}
@@ -50,6 +50,13 @@ new_so ss s h t m e f = go (find (is_exactly s.name s.kind) ss) (finds (is_exact
 
 -- ---- the sets as the code keeps them
 
+pub pushed : {A : Type 0} (xs : List A) (i : ℕ) (x : A) → i ≡ length xs → xs ++ x ∷ [] ≡ insert xs i x
+pushed {A = A} xs i x e = at_end xs ∙ ap (λ j. insert xs j x) (sym e)
+  where
+    at_end : (ys : List A) → ys ++ x ∷ [] ≡ insert ys (length ys) x
+    at_end [] = refl
+    at_end (y ∷ ys) = ap (λ zs. y ∷ zs) (at_end ys)
+
 map_inserted : {X Y : Type 0} (f : X → Y) (xs : List X) (x : X) (i : ℕ) → map f (insert xs i x) ≡ insert (map f xs) i (f x)
 map_inserted f xs x i = map-append f (take i xs) (x ∷ drop i xs) ∙ (λ j. sym (take-map f i xs) j ++ (f x ∷ sym (drop-map f i xs) j))
 
@@ -57,10 +64,10 @@ module _ {X : Type 0} (f : X → Set) (xs : List X) (x : X) where
   pub put_in : (i : ℕ) → i ≡ place (f x).name (f x).kind (map f xs) → map f (insert xs i x) ≡ insert_set (f x) (map f xs)
   put_in i e = map_inserted f xs x i ∙ ap (λ j. insert (map f xs) j (f x)) e ∙ sym (insert_place (f x) (map f xs))
 
-  -- each has its front: g is that of the new one, which there was room for
-  pub still_marked : (d i g : ℕ) (b : Bool) (fs hs gs : List ℕ) (ys : List X) → fs ≡ fronts_of d (map f xs) → g ≡ front_below d (f x).name → ys ≡ insert xs i x → hs ≡ fs → b ≡ true → gs ≡ cond b (insert hs i g) hs → gs ≡ fronts_of d (map f ys)
-  still_marked d i g b fs hs gs ys m e h n o k =
-      k ∙ cond-true b (insert hs i g) hs o ∙ (λ j. insert ((n ∙ m) j) i (e j))
+  -- each has its front: g is that of the new one
+  pub still_marked : (d i g : ℕ) (fs gs : List ℕ) (ys : List X) → fs ≡ fronts_of d (map f xs) → g ≡ front_below d (f x).name → ys ≡ insert xs i x → gs ≡ insert fs i g → gs ≡ fronts_of d (map f ys)
+  still_marked d i g fs gs ys m e h k =
+      k ∙ (λ j. insert (m j) i (e j))
       ∙ sym (map_inserted (λ (s : Set). front_below d s.name) (map f xs) (f x) i)
       ∙ ap (fronts_of d) (sym (ap (map f) h ∙ map_inserted f xs x i))
 

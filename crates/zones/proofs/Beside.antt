@@ -79,10 +79,10 @@ no_clash_lem s t (u ∷ ss) h m =
     let p = or_parts (clash s u) (clashes s ss) h in
     ⊎_elim (λ e. ap (clash s) e ∙ p.0) (λ l. no_clash_lem s t ss p.1 l) (Memᴰ.cases_cons m)
 
-clash_so : (s t : Set) → s.name ≡ t.name → (aliases s.kind || aliases t.kind) ≡ true → clash s t ≡ true
+pub clash_so : (s t : Set) → s.name ≡ t.name → (aliases s.kind || aliases t.kind) ≡ true → clash s t ≡ true
 clash_so s t e a = and_from (same s.name t.name) (aliases s.kind || aliases t.kind) (so_same s.name t.name e) a
 
-alone : (ss : List Set) → no_clash ss ≡ true → (s t : Set) → Memᴰ s ss → Memᴰ t ss → s.name ≡ t.name → aliases s.kind ≡ true → s ≡ t
+pub alone : (ss : List Set) → no_clash ss ≡ true → (s t : Set) → Memᴰ s ss → Memᴰ t ss → s.name ≡ t.name → aliases s.kind ≡ true → s ≡ t
 alone [] h s t m l e a = absurd (Memᴰ.not-nil m)
 alone (u ∷ ss) h s t m l e a = go (λ j k. alone ss (and_parts (not (clashes u ss)) (no_clash ss) h).1 s t j k e a) (Memᴰ.cases_cons m) (Memᴰ.cases_cons l)
   where
@@ -102,10 +102,10 @@ alone (u ∷ ss) h s t m l e a = go (λ j k. alone ss (and_parts (not (clashes u
 
 module _ (ss : List Set) (o : sorted ss ≡ true) (c : no_clash ss ≡ true) (n : List (List ℕ)) (k : ℕ) (d : Set) where
   -- the sets there
-  abbrev here : Set
+  abbrev pub here : Set
   here = get_or ss (place n k ss) d
 
-  abbrev before : Set
+  abbrev pub before : Set
   before = get_or ss (place n k ss - 1) d
 
   abbrev by : Option Set → Option Set → Bool → Speaker
@@ -115,7 +115,7 @@ module _ (ss : List Set) (o : sorted ss ≡ true) (c : no_clash ss ≡ true) (n 
   before_name l = up_to before n k (order before.name n) refl (before_place n k ss d (place n k ss - 1) (omega arith))
 
   -- whatever is at the name or below it has its name before the place, or is below it there
-  sides : (s : Set) → Memᴰ s ss → within n s.name ≡ true → ((0 < place n k ss) × (before.name ≡ n)) ⊎ ((place n k ss < length ss) × (within n here.name ≡ true) × NotAfter here.name s.name)
+  pub sides : (s : Set) → Memᴰ s ss → within n s.name ≡ true → ((0 < place n k ss) × (before.name ≡ n)) ⊎ ((place n k ss < length ss) × (within n here.name ≡ true) × NotAfter here.name s.name)
   sides s m w = go (index_of ss d s m)
     where
       go : (i : ℕ) × (i < length ss) × (get_or ss i d ≡ s) → ((0 < place n k ss) × (before.name ≡ n)) ⊎ ((place n k ss < length ss) × (within n here.name ≡ true) × NotAfter here.name s.name)
@@ -285,7 +285,7 @@ module _ (n : List (List ℕ)) (k : ℕ) (s : Set) where
         go r (is_other_lem v) = absurd (true≢false (sym w ∙ v))
 
 -- the set at an index, or none
-at_index : (ss : List Set) (i : ℕ) (d : Set) → i < length ss → set_at i ss ≡ get_or ss i d ∷ []
+pub at_index : (ss : List Set) (i : ℕ) (d : Set) → i < length ss → set_at i ss ≡ get_or ss i d ∷ []
 at_index [] i d l = absurd (omega arith)
 at_index (s ∷ ss) zero d l = refl
 at_index (s ∷ ss) (suc i) d l = at_index ss i d (omega arith)

@@ -1,5 +1,5 @@
 -- Searches by place find what a look through all sets finds.
-use Rattle.std.proofs.Common.{◌≡◌, ℕ, ◌<◌, ◌≤◌, Bool, true, false, cond, eqb, List, [], map, length, get_or, Some, None, Option, Ordering, Less, Equal, Greater, sym, refl, ap, ◌∙◌, subst, ⊎_elim, true≢false, arith}
+use Rattle.std.proofs.Common.{◌≡◌, ℕ, ◌-◌, ◌<◌, ◌≤◌, Bool, true, false, cond, eqb, List, [], map, length, get_or, Some, None, Option, Ordering, Less, Equal, Greater, sym, refl, ap, ◌∙◌, subst, ⊎_elim, true≢false, arith}
 use mathlib.Core.List.{Memᴰ}
 use lib.ListN.{length-map}
 use Rattle.std.specs.Bool.{then_some}
@@ -14,7 +14,7 @@ use Rattle.meaning.specs.Model.{AliasOf, Set}
 use Rattle.meaning.specs.Says.{same, is_exactly, find, any_under}
 use Rattle.zones.specs.Sorted.{is_before, sorted, place}
 use Rattle.meaning.proofs.Finding.{Found, some, none, finds, Below, one, no_one, looks_below}
-use Rattle.zones.proofs.Places.{mem_at, index_of, in_order, at_place, place_left, read_at}
+use Rattle.zones.proofs.Places.{mem_at, index_of, in_order, right_half, sets_fall, place_leading, place_within, at_place, place_left, read_at}
 use Rattle.meaning.proofs.Rules.{same_so, so_same}
 
 -- ---- keys that are the same
@@ -80,6 +80,16 @@ module _ (ss : List Set) (o : sorted ss ≡ true) (n : List (List ℕ)) (k : ℕ
           let q = and_parts (same s.name n) (eqb s.kind k) p in
           absurd (clash s m (same_so s.name n q.0) (eqb-true s.kind k q.1))
       go x (none h) = refl
+
+-- where the last set stands before a key, all do
+pub behind_last : {X : Type 0} (f : X → Set) (xs : List X) (n : List (List ℕ)) (k : ℕ) → sorted (map f xs) ≡ true → (x : X) → 0 < length xs → x ≡ get_or xs (length xs - 1) x → is_before n k (f x) ≡ true → length xs ≡ place n k (map f xs)
+behind_last f xs n k o x l e h =
+    let m = length-map xs f in
+    let last : get_or (map f xs) (length xs - 1) (f x) ≡ f x = read_at f xs (length xs - 1) x (omega arith) e in
+    let r = right_half (is_before n k) (map f xs) (sets_fall n k (map f xs) o) (f x) (length xs - 1) (omega arith) (ap (is_before n k) last ∙ h) in
+    let p = place_leading n k (map f xs) in
+    let w = place_within n k (map f xs) in
+    omega arith
 
 -- ---- the order of names, from that of sets
 

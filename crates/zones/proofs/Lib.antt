@@ -8,5 +8,5 @@ mod Narrow
 pub mod Insert
 mod OneMore
 mod Spoken
-mod Standing
+mod Clashing
 mod Added

@@ -19,7 +19,7 @@ use Rattle.meaning.proofs.Rules.{so_same}
 use Rattle.zones.specs.Sorted as sorts
 use Rattle.zones.specs.Sorted.{is_before, each}
 use Rattle.zones.specs.Valid.{insert_set}
-use Rattle.zones.specs.Cuts.{apart, cuts_of, cut_place, cut_over, all_below, beyond, with_cut, no_other, new_cut}
+use Rattle.zones.specs.Cuts.{apart, cuts_of, cut_place, cut_over, all_below, beyond, with_cut, with_any, no_other, new_cut}
 use Rattle.zones.proofs.Places.{index_of, leading_more, leading_stop, leading_nil, leading_within, right_half}
 use Rattle.zones.proofs.Insert.{insert_on, insert_here}
 use Rattle.zones.proofs.Topmost.{each_so, so_each, so_some, apart_tail, apart_parts, pair_apart, cuts_fall, less_le, Covers, covers, uncovered, looks_over, right_so, so_right, at_cut, covered_so}
@@ -356,7 +356,7 @@ module _ (apex : List (List ℕ)) (ss : List Set) (cs : List (List (List ℕ))) 
           (⊎_elim (λ m. so_some (λ c. within c t.name) (with_cut s.name cs) a.0 m a.2) (λ w. so_some (λ c. within c t.name) (with_cut s.name cs) s.name (with_new s.name cs) (within_laws.transitive s.name a.0 t.name w a.2)) (with_old s.name cs a.0 a.1))
 
   -- by whether it is a new topmost one
-  pub kept_by : None ≡ new_cut s cs → cuts_of apex (insert_set s ss) cs ≡ true
+  kept_by : None ≡ new_cut s cs → cuts_of apex (insert_set s ss) cs ≡ true
   kept_by e = kept_right (go (delegates s.kind) refl (cut_over s.name cs) (looks_over s.name cs) e)
     where
       go : (b : Bool) → delegates s.kind ≡ b → (x : Option (List (List ℕ))) → Covers s.name cs x → None ≡ cond b (no_other s.name x) None → covered cs s ≡ true
@@ -364,10 +364,17 @@ module _ (apex : List (List ℕ)) (ss : List Set) (cs : List (List (List ℕ))) 
       go true d x (covers c m w) f = or_right (not (delegates s.kind)) (sorts.some (λ c. within c s.name) cs) (so_some (λ c. within c s.name) cs c m w)
       go true d x (uncovered never) f = let z : ◌≡◌ {A = ℕ} 0 1 = cc in absurd (omega arith)
 
-  pub more_by : (n : List (List ℕ)) → within apex s.name ≡ true → Some n ≡ new_cut s cs → cuts_of apex (insert_set s ss) (with_cut n cs) ≡ true
+  more_by : (n : List (List ℕ)) → within apex s.name ≡ true → Some n ≡ new_cut s cs → cuts_of apex (insert_set s ss) (with_cut n cs) ≡ true
   more_by n inside e = go (delegates s.kind) refl (cut_over s.name cs) refl (looks_over s.name cs) e
     where
       go : (b : Bool) → delegates s.kind ≡ b → (x : Option (List (List ℕ))) → cut_over s.name cs ≡ x → Covers s.name cs x → Some n ≡ cond b (no_other s.name x) None → cuts_of apex (insert_set s ss) (with_cut n cs) ≡ true
       go false d x g v f = let z : ◌≡◌ {A = ℕ} 0 1 = cc in absurd (omega arith)
       go true d x g (covers c m w) f = let z : ◌≡◌ {A = ℕ} 0 1 = cc in absurd (omega arith)
       go true d x g (uncovered never) f = let same_name : n ≡ s.name = cc in ap (λ y. cuts_of apex (insert_set s ss) (with_cut y cs)) same_name ∙ more_right inside d (sym g)
+
+  pub one_more : within apex s.name ≡ true → cuts_of apex (insert_set s ss) (with_any (new_cut s cs) cs) ≡ true
+  one_more inside = go (new_cut s cs) refl
+    where
+      go : (o : Option (List (List ℕ))) → new_cut s cs ≡ o → cuts_of apex (insert_set s ss) (with_any o cs) ≡ true
+      go None e = kept_by (sym e)
+      go (Some n) e = more_by n inside (sym e)

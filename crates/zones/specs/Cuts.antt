@@ -57,3 +57,8 @@ no_other n (Some c) = None
 -- the name of a set that becomes a topmost delegation
 abbrev pub new_cut : Set → List (List (List ℕ)) → Option (List (List ℕ))
 new_cut s cs = cond (delegates s.kind) (no_other s.name (cut_over s.name cs)) None
+
+-- with one that may have come
+abbrev pub with_any : Option (List (List ℕ)) → List (List (List ℕ)) → List (List (List ℕ))
+with_any None cs = cs
+with_any (Some n) cs = with_cut n cs

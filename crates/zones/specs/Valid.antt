@@ -19,11 +19,6 @@ abbrev pub no_clash : List Set → Bool
 no_clash [] = true
 no_clash (s ∷ ss) = not (clashes s ss) && no_clash ss
 
--- a set at a name
-abbrev pub any_at : List (List ℕ) → List Set → Bool
-any_at n [] = false
-any_at n (t ∷ ts) = same n t.name || any_at n ts
-
 -- within the apex, and no delegation at the apex itself
 abbrev pub belongs : List (List ℕ) → Set → Bool
 belongs apex s = within apex s.name && not (delegates s.kind && same s.name apex)

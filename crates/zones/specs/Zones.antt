@@ -1,5 +1,5 @@
 -- What a `Zone` and a `Reply` stand for.
-use Rattle.std.specs.Prelude.{◌≡◌, ℕ, Bool, true, false, ◌⊎◌, List, map, Ok, Err, vec_items, Result}
+use Rattle.std.specs.Prelude.{◌≡◌, ℕ, ◌<◌, Bool, true, false, ◌⊎◌, List, map, Ok, Err, vec_items, vec_len, vec_capacity, Result}
 use Rattle.names.specs.declared.fault.Fault.{Fault}
 use Rattle.names.specs.declared.fault.Fault.TheVariants.{NoMemory}
 use Rattle.names.specs.Names.{labels}
@@ -14,6 +14,10 @@ use Rattle.records.specs.Sets.{set_of}
 
 abbrev pub sets_of : SortedSets → List model.Set
 sets_of s = map set_of (vec_items s.sets)
+
+-- one more can be put in without asking for memory
+abbrev pub has_room : SortedSets → Type 0
+has_room s = (vec_len s.sets < vec_capacity s.sets) × (vec_len s.fronts < vec_capacity s.fronts)
 
 abbrev pub cuts_in : Cuts → List (List (List ℕ))
 cuts_in c = map labels (vec_items c.names)

@@ -8,6 +8,7 @@ use names::Name;
 use records::RecordSet;
 
 pub mod build;
+pub mod placing;
 pub mod reply;
 pub mod search;
 

@@ -120,7 +120,7 @@ pub fn pieces_of<'a>(heap: Global, line: &'a [u8]) -> Result<Vec<Piece<'a>>, Fau
     if rest.len() > MAX_LINE {
         return Err(Fault::Malformed);
     }
-    let mut pieces = Vec::new(heap);
+    let mut pieces = Vec::with_capacity(heap, 8)?;
     while let Some((piece, after)) = first_piece(rest)? {
         pieces.push(piece)?;
         rest = after;

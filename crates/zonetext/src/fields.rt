@@ -192,7 +192,7 @@ fn data(heap: Global, kind: Kind, apex: &Name, pieces: &[Piece]) -> Result<Data,
         let servers = addresses(heap, pieces)?;
         Ok(Data::Delegation(Delegation { servers }))
     } else if kind.is_alias() {
-        Ok(Data::Alias(alias(apex, pieces)?))
+        Ok(Data::Alias(Box::new(heap, alias(apex, pieces)?)?))
     } else {
         Ok(Data::Others(others(heap, pieces)?))
     }

@@ -36,7 +36,7 @@ impl Data {
             }
             Data::Texts(pieces) => Data::Texts(copied_pieces(heap, pieces.as_slice())?),
             Data::Others(pieces) => Data::Others(copied_pieces(heap, pieces.as_slice())?),
-            Data::Alias(name) => Data::Alias(*name),
+            Data::Alias(name) => Data::Alias(Box::new(heap, **name)?),
             Data::Delegation(to) => Data::Delegation(to.copied(heap)?),
         })
     }

@@ -7,6 +7,7 @@ use super::{FIRST, QueryPacket};
 use crate::buffer::Buffer;
 
 impl QueryPacket {
+    #[tactic(auto, using(crate::proofs::Putting::joined_more), unfolding(crate::specs::Packets::query_bytes))]
     pub(crate) fn put(&self, out: &mut Buffer)
         ensures { written out.new ≡ joined (written out.old) (query_bytes (query_of self.now)) }
     {

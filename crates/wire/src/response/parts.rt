@@ -12,7 +12,7 @@ use names::{Fault, Name};
 use records::Ttl;
 
 impl ResponsePacket {
-    #[tactic(auto, unfolding(crate::specs::Packets::next))]
+    #[tactic(auto, unfolding(crate::specs::Cuts::next))]
     pub fn new(id: QueryId, apex: Name, ttl: Ttl, told: Told) -> Result<ResponsePacket, Fault>
         ensures { response_given result ≡ response_from id.0 (labels apex) ttl.0 (told_of told) }
     {

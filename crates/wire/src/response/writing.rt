@@ -4,18 +4,14 @@ ghost use Rattle.wire.specs.Given.{written, joined};
 ghost use Rattle.wire.specs.Packets.{response_bytes};
 ghost use Rattle.wire.specs.Responses.{response_of};
 
-use super::{FIRST, ResponsePacket};
+use super::ResponsePacket;
 use crate::buffer::Buffer;
 
 impl ResponsePacket {
     pub(crate) fn put(&self, out: &mut Buffer)
         ensures { written out.new ≡ joined (written out.old) (response_bytes (response_of self.now)) }
     {
-        out.byte(FIRST);
-        out.number_8(self.id.0);
-        out.name(&self.apex);
-        out.byte(self.told.what().number());
-        out.number_4(self.ttl.0);
+        out.front(self.id, &self.apex, self.told.what(), self.ttl);
         self.told.put(out);
     }
 }

@@ -24,6 +24,7 @@ impl Told {
         }
     }
 
+    #[tactic(auto, using(crate::proofs::Putting::joined_more))]
     pub(crate) fn put(&self, out: &mut Buffer)
         requires { held (told_of self.now) ≡ true }
         ensures { written out.new ≡ joined (written out.old) (told_bytes (told_of self.now)) }

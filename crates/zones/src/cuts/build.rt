@@ -4,11 +4,13 @@ ghost use Rattle.std.specs.List.{remove_range};
 ghost use Rattle.names.specs.declared.fault.Fault.TheVariants.{NoMemory};
 ghost use Rattle.names.specs.Names.{labels};
 ghost use Rattle.names.specs.Order.{within};
-ghost use Rattle.zones.specs.Cuts.{cut_over, with_cut};
+ghost use Rattle.records.specs.Sets.{set_of};
+ghost use Rattle.zones.specs.Cuts.{cut_over, new_cut, with_cut, with_any};
 ghost use Rattle.zones.specs.Zones.{cuts_in};
 
 use super::Cuts;
 use names::{Fault, Name};
+use records::RecordSet;
 use std::alloc::Global;
 
 // So many names from an index on go. A drain moves all that are behind it, even where none goes.
@@ -44,7 +46,7 @@ impl Cuts {
     }
 
     // A delegation more, where none is over it yet: those within it are topmost no more.
-    pub fn add(&mut self, name: Name)
+    fn add(&mut self, name: Name)
         requires inside { within (labels self.old.apex) (labels name) ≡ true }
         requires topmost { cut_over (labels name) (cuts_in self.old) ≡ None }
         requires room { vec_len self.old.names < vec_capacity self.old.names }
@@ -55,5 +57,17 @@ impl Cuts {
         let below = self.names.as_slice()[at..].partition_point(|cut| cut.is_within(&name));
         take_out(&mut self.names, at, below);
         let _ = self.names.insert(at, name);
+    }
+
+    // A set more: a delegation that none is over becomes one of the topmost.
+    pub fn add_set(&mut self, set: &RecordSet)
+        requires inside { within (labels self.old.apex) (set_of set.now).name ≡ true }
+        requires room { vec_len self.old.names < vec_capacity self.old.names }
+        ensures apex { labels self.new.apex ≡ labels self.old.apex }
+        ensures cuts { cuts_in self.new ≡ with_any (new_cut (set_of set.now) (cuts_in self.old)) (cuts_in self.old) }
+    {
+        if set.kind().is_delegation() && self.find(set.name()).is_none() {
+            self.add(*set.name());
+        }
     }
 }

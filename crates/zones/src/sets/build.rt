@@ -5,8 +5,9 @@ ghost use Rattle.names.specs.Names.{labels};
 ghost use Rattle.names.specs.Order.{within};
 ghost use Rattle.meaning.specs.Says.{is_exactly, find};
 ghost use Rattle.records.specs.Sets.{set_of};
+ghost use Rattle.zones.specs.Sorted.{place};
 ghost use Rattle.zones.specs.Valid.{insert_set};
-ghost use Rattle.zones.specs.Zones.{sets_of};
+ghost use Rattle.zones.specs.Zones.{sets_of, has_room};
 
 use super::SortedSets;
 use names::{Fault, Name};
@@ -43,19 +44,34 @@ impl SortedSets {
         self.sets.as_slice()
     }
 
-    // One set more, in its place.
-    pub fn insert(&mut self, set: RecordSet) -> Result<(), Fault>
+    // Room for one more.
+    pub fn reserve(&mut self) -> Result<(), Fault>
+        ensures apex { labels self.new.apex ≡ labels self.old.apex }
+        ensures sets { sets_of self.new ≡ sets_of self.old }
+        ensures room { MatchResult result (λ _. has_room self.new) (λ f. f ≡ NoMemory) }
+    {
+        self.fronts.reserve(1)?;
+        self.sets.reserve(1)?;
+        Ok(())
+    }
+
+    // One set more, at its place.
+    pub fn insert(&mut self, at: usize, set: RecordSet)
         requires inside { within (labels self.old.apex) (set_of set).name ≡ true }
         requires fresh { is_some (find (is_exactly (set_of set).name (set_of set).kind) (sets_of self.old)) ≡ false }
+        requires place { at ≡ place (set_of set).name (set_of set).kind (sets_of self.old) }
+        requires room { has_room self.old }
         ensures apex { labels self.new.apex ≡ labels self.old.apex }
-        ensures sets { MatchResult result (λ _. sets_of self.new ≡ insert_set (set_of set) (sets_of self.old)) (λ f. (f ≡ NoMemory) × (sets_of self.new ≡ sets_of self.old)) }
+        ensures sets { sets_of self.new ≡ insert_set (set_of set) (sets_of self.old) }
     {
-        let at = self.position(set.name(), set.kind());
         let front = set.name().front_below(self.apex.label_count());
-        // Room first, so that nothing can fail once the set is in.
-        self.fronts.reserve(1)?;
-        self.sets.insert(at, set)?;
+        // Behind all, none has to move.
+        if at == self.sets.len() {
+            self.sets.push_reserved(set);
+            self.fronts.push_reserved(front);
+            return;
+        }
+        let _ = self.sets.insert(at, set);
         let _ = self.fronts.insert(at, front);
-        Ok(())
     }
 }

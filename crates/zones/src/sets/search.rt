@@ -6,7 +6,6 @@ ghost use Rattle.names.specs.Order.{within};
 ghost use Rattle.meaning.specs.Says.{is_exactly, find, any_under};
 ghost use Rattle.records.specs.Sets.{set_of};
 ghost use Rattle.zones.specs.Sorted.{is_before_below, is_ahead_below, place, Narrowed};
-ghost use Rattle.zones.specs.Valid.{any_at};
 ghost use Rattle.zones.specs.Zones.{sets_of};
 
 use super::SortedSets;
@@ -22,7 +21,7 @@ fn is_ahead(set: &RecordSet, name: &Name, depth: usize) -> bool
 }
 
 // Whether a set stands before a name and kind, by the labels from a depth on.
-fn is_before(set: &RecordSet, name: &Name, kind: Kind, depth: usize) -> bool
+pub fn is_before(set: &RecordSet, name: &Name, kind: Kind, depth: usize) -> bool
     ensures { result ≡ is_before_below depth (labels name.now) kind.number (set_of set.now) }
 {
     let by_name = set.name().compare_below(name, depth);
@@ -99,12 +98,20 @@ impl SortedSets {
         start + alike.partition_point(|set| is_ahead(set, name, depth))
     }
 
+    // The set of a name and kind, by their place.
+    pub fn find_at(&self, at: usize, name: &Name, kind: Kind) -> Option<&RecordSet>
+        requires { at ≡ place (labels name.now) kind.number (sets_of self.now) }
+        ensures { option_map (λ s. set_of s.now) result ≡ find (is_exactly (labels name.now) kind.number) (sets_of self.now) }
+    {
+        let set = self.sets.get(at)?;
+        is_exactly(set, name, kind).then_some(set)
+    }
+
     // The set of a name and kind.
     pub fn find(&self, name: &Name, kind: Kind) -> Option<&RecordSet>
         ensures { option_map (λ s. set_of s.now) result ≡ find (is_exactly (labels name.now) kind.number) (sets_of self.now) }
     {
-        let set = self.sets.get(self.position(name, kind))?;
-        is_exactly(set, name, kind).then_some(set)
+        self.find_at(self.position(name, kind), name, kind)
     }
 
     // Whether anything stands at a name or below it.
@@ -113,13 +120,5 @@ impl SortedSets {
     {
         let first = self.sets.get(self.first_at(name));
         first.is_some_and(|set| set.name().is_within(name))
-    }
-
-    // Whether a set stands at a name.
-    pub fn is_at(&self, name: &Name) -> bool
-        ensures { result ≡ any_at (labels name.now) (sets_of self.now) }
-    {
-        let first = self.sets.get(self.first_at(name));
-        first.is_some_and(|set| *name == *set.name())
     }
 }

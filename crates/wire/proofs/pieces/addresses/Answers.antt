@@ -3,7 +3,7 @@ use Rattle.std.proofs.lemmas.List.{map-append}
 use Rattle.std.proofs.lemmas.Bool.{cond-true, cond-false}
 use Rattle.names.specs.declared.fault.Fault.TheVariants.{BadData}
 use Rattle.records.specs.Contents.{bytes_of}
-use Rattle.wire.specs.Packets.{are_addresses}
+use Rattle.wire.specs.Parts.{are_addresses}
 use Rattle.wire.proofs.Copying.{never_empty, none_copied, one_copied, all_copied, cut_shorter, one_address, bad_address}
 use Rattle.wire.proofs.pieces.addresses.Goals as goal
 

@@ -1,7 +1,7 @@
 use Rattle.std.proofs.Common.{◌≡◌, true, List, ℕ, map, length, vec_items}
 use Rattle.names.specs.Wire.{wire}
 use Rattle.records.specs.Contents.{bytes_of}
-use Rattle.wire.specs.Packets.{are_addresses}
+use Rattle.wire.specs.Parts.{are_addresses}
 use Rattle.wire.proofs.Copying.{Copying}
 use Rattle.wire.proofs.pieces.addresses.Given as goal
 

@@ -1,6 +1,6 @@
 use Rattle.std.proofs.Common.{inl, inr, ⊎_elim, refl}
 use Rattle.std.proofs.lemmas.Result.{err_from_is_err_and}
-use Rattle.wire.specs.Packets.{next}
+use Rattle.wire.specs.Cuts.{next}
 use Rattle.wire.specs.Parts.{set_in}
 use Rattle.wire.proofs.Naming.{set_reads}
 use Rattle.wire.proofs.sets.judged.Goals as goal

@@ -11,7 +11,7 @@ pub returns-in_err-piece : goal.returns-in_err-piece
 returns-in_err-piece c =
     let line = c.args.line.now in
     let h = c.in_err-piece.ensures in
-    let p = err_from_is_err_and c.from_residual.result c.from_residual.ensures.1 in
+    let p = err_from_is_err_and c.from_residual-in_err-piece.result c.from_residual-in_err-piece.ensures.1 in
     let none = within_line line c.read_part-rest.result.now None c.read_part-rest.ensures (omega arith) (bad_cut (read_part line) (map piece_of (vec_items c.loop-pieces.pieces)) c.loop-pieces.rest.now c.loop-pieces.invariant h.0) in
     subst (λ r. MatchResult r (λ v. pieces_of line ≡ Some (map piece_of (vec_items v))) (λ f. ((pieces_of line ≡ None) × (f ≡ Malformed)) ⊎ (f ≡ NoMemory))) (sym (p.1 ∙ ap Err (p.2 ∙ h.1))) (inl (none, refl))
 

@@ -1,7 +1,5 @@
 use Rattle.wire.specs.Cuts.{then}
-use Rattle.wire.specs.Heads.{times_of}
-use Rattle.wire.specs.Shapes.{Head, cut_head}
-use Rattle.wire.proofs.Partly.{bad_serial, good_serial}
+use Rattle.wire.specs.Shapes.{cut_head}
 use Rattle.wire.proofs.part.reading.head.Goals as goal
 
 pub returns-in_default : goal.returns-in_default
@@ -28,20 +26,6 @@ pub returns-in_default-number_2-2 : goal.returns-in_default-number_2-2
 unfolding then cut_head
 returns-in_default-number_2-2 c = rw (c.in-Some.ensures, c.in-Some-number_8.ensures, c.in-Some-number_8-2.ensures, c.in-Some-times.ensures, c.in-Some-number_2.ensures, c.in_default-number_2-2.ensures.0)
 
-pub returns-in-Err : goal.returns-in-Err
-unfolding then cut_head
-returns-in-Err c =
-    let h : Head = record { id = c.in-Some.id; serial = c.in-Some-number_8.serial; moment = c.in-Some-number_8-2.moment; times = times_of c.in-Some-times.times; part = c.in-Some-number_2.part; of = c.in-Some-number_2-2.of } in (
-      h,
-      rw (c.in-Some.ensures, c.in-Some-number_8.ensures, c.in-Some-number_8-2.ensures, c.in-Some-times.ensures, c.in-Some-number_2.ensures, c.in-Some-number_2-2.ensures),
-      bad_serial h c.in-Err.fault c.in-Err.ensures,
-    )
-
 pub returns : goal.returns
 unfolding then cut_head
-returns c =
-    let h : Head = record { id = c.in-Some.id; serial = c.in-Some-number_8.serial; moment = c.in-Some-number_8-2.moment; times = times_of c.in-Some-times.times; part = c.in-Some-number_2.part; of = c.in-Some-number_2-2.of } in (
-      h,
-      rw (c.in-Some.ensures, c.in-Some-number_8.ensures, c.in-Some-number_8-2.ensures, c.in-Some-times.ensures, c.in-Some-number_2.ensures, c.in-Some-number_2-2.ensures),
-      good_serial h c.in-Ok.serial.number c.in-Ok.ensures,
-    )
+returns c = rw (c.in-Some.ensures, c.in-Some-number_8.ensures, c.in-Some-number_8-2.ensures, c.in-Some-times.ensures, c.in-Some-number_2.ensures, c.in-Some-number_2-2.ensures)

@@ -1,7 +1,7 @@
 use Rattle.std.proofs.Common.{◌≡◌, true, eqb, length, rules}
 use Rattle.std.proofs.lemmas.Result.{err_from_is_err_and}
-use Rattle.wire.specs.Cuts.{then}
-use Rattle.wire.specs.Packets.{next, request_in}
+use Rattle.wire.specs.Cuts.{then, next}
+use Rattle.wire.specs.Packets.{request_in}
 use Rattle.wire.specs.Shapes.{request_shape}
 use Rattle.wire.proofs.Shaping.{ends, goes_on}
 use Rattle.wire.proofs.request.RequestPacket.read.Goals as goal

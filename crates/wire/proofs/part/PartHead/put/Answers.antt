@@ -1,0 +1,9 @@
+use Rattle.wire.proofs.Putting.{put_more}
+use Rattle.wire.proofs.Sending.{none_sent, one_sent}
+use Rattle.wire.proofs.part.PartHead.put.Goals as goal
+
+pub loop-set-init : goal.loop-set-init
+loop-set-init c = none_sent c.args.self.now c.args.sets.now _ _ (put_more _ _ _ _ _ c.byte.ensures c.put_fields.ensures.put)
+
+pub loop-set-preserved : goal.loop-set-preserved
+loop-set-preserved c = one_sent c.args.self.now c.args.sets.now _ _ _ c.loop-set.set-index c.set-item.result c.loop-set.invariant c.loop-set-test.true c.set-item.is c.set.ensures.put c.set.ensures.kept
