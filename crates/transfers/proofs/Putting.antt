@@ -1,10 +1,10 @@
 -- Sets that are put into a zone one by one.
-use Rattle.std.proofs.Common.{◌≡◌, List, [], ◌∷◌, Ok, Err, Result, sym, refl, ap, ◌∙◌}
+use Rattle.std.proofs.Common.{◌≡◌, List, [], ◌∷◌, Ok, Err, sym, refl, ap, ◌∙◌}
 use Rattle.names.specs.declared.fault.Fault.{Fault}
 use Rattle.meaning.specs.Model.{Set, Zone}
 use Rattle.zones.specs.Valid.{added}
 use Rattle.zones.specs.Zones.{with_sets}
-use Rattle.wire.specs.Packets.{next}
+use Rattle.wire.specs.Cuts.{next}
 use Rattle.transfers.specs.Joining.{added_all}
 
 -- what is left to put in makes of the zone as it is what all of them make of the one before

@@ -1,11 +1,11 @@
 -- A part that is taken, from what was found of it.
-use Rattle.std.proofs.Common.{◌≡◌, ℕ, zero, suc, ◌+◌, ◌<◌, ◌≤◌, ◌⊎◌, inl, inr, Bool, true, false, cond, ltb, List, [], ◌∷◌, length, replicate, Ok, Err, Result, sym, refl, ap, ◌∙◌, subst, arith}
+use Rattle.std.proofs.Common.{◌≡◌, ℕ, zero, suc, ◌<◌, ◌≤◌, ◌⊎◌, inl, inr, Bool, true, false, cond, ltb, List, [], ◌∷◌, replicate, Ok, Err, Result, sym, refl, ap, ◌∙◌, subst, arith}
 use Rattle.std.proofs.lemmas.Bool.{lt-ltb, le-ltb}
 use Rattle.names.specs.declared.fault.Fault.{Fault}
 use Rattle.names.specs.declared.fault.Fault.TheVariants.{TooMuch, BadTransfer, NoMemory}
 use Rattle.meaning.specs.Model.{Set, Zone}
 use Rattle.zones.specs.Zones.{zone_from}
-use Rattle.wire.specs.Packets.{next}
+use Rattle.wire.specs.Cuts.{next}
 use Rattle.wire.specs.Parts.{Part}
 use Rattle.transfers.specs.Joining.{joined, added_all, Joining, is_counted, belongs_to, is_there, none_there, absent, with_part, begun, begin, take}
 use Rattle.transfers.specs.Joinings.{joining_from, Judges, Puts, Takes}

@@ -5,7 +5,6 @@ use Rattle.names.specs.declared.fault.Fault.TheVariants.{Misplaced, Conflict, No
 use Rattle.meaning.specs.Model.{Set, Zone}
 use Rattle.zones.specs.Zones.{zone_of, with_sets}
 use Rattle.zones.specs.declared.zone.Zone as zones
-use Rattle.wire.specs.Packets.{next}
 use Rattle.wire.specs.Parts.{Part}
 use Rattle.transfers.specs.declared.joining.Joining as declared
 use Rattle.transfers.specs.Joining.{insert_all, added_all, joined, Joining, is_complete, with_part, zone_in}

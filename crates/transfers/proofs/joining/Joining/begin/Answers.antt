@@ -1,4 +1,4 @@
-use Rattle.std.proofs.Common.{◌≡◌, false, [], inl, inr, map, Ok, Err, vec_items, refl, sym, ap, ◌∙◌, rules, arith}
+use Rattle.std.proofs.Common.{[], inl, inr, map, Ok, Err, vec_items, refl, sym, ap, ◌∙◌, rules, arith}
 use Rattle.std.proofs.lemmas.Result.{err_from_is_err_and}
 use Rattle.names.specs.Names.{labels}
 use Rattle.records.specs.Sets.{set_of}
@@ -6,7 +6,7 @@ use Rattle.wire.specs.Heads.{part_of}
 use Rattle.zones.specs.Zones.{zone_of}
 use Rattle.transfers.specs.Joining.{insert_all, is_there, absent, none_there}
 use Rattle.transfers.specs.Joinings.{joining_from, joining_of}
-use Rattle.transfers.proofs.Taking.{none_yet, all_absent, not_yet, first_refused, first_of_many, first_uncounted, first_taken, at_first, judged_at, first_put, first_failed}
+use Rattle.transfers.proofs.Taking.{none_yet, all_absent, not_yet, first_refused, first_of_many, first_uncounted, at_first, judged_at, first_put, first_failed}
 use Rattle.transfers.proofs.joining.Joining.begin.Goals as goal
 
 pub returns-in_err-check_alone : goal.returns-in_err-check_alone

@@ -1,4 +1,4 @@
-use Rattle.std.proofs.Common.{◌≡◌, ◌≤◌, ◌-◌, true, false, length, get_or, vec_items, unwrap_or, sym, ap, ◌∙◌, arith}
+use Rattle.std.proofs.Common.{◌≡◌, ◌-◌, false, get_or, vec_items, unwrap_or, sym, ap, ◌∙◌, arith}
 use Rattle.transfers.specs.Joining.{is_there}
 use Rattle.transfers.proofs.Marks.{none_zeroth, there_is}
 use Rattle.transfers.proofs.joining.Joining.is_there.Goals as goal

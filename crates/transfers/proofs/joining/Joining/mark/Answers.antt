@@ -1,4 +1,4 @@
-use Rattle.std.proofs.Common.{◌≡◌, ◌-◌, true, set, vec_items, sym, ap, ◌∙◌, arith}
+use Rattle.std.proofs.Common.{◌-◌, true, set, vec_items, sym, ap, ◌∙◌, arith}
 use Rattle.transfers.specs.Joining.{absent}
 use Rattle.transfers.specs.Joinings.{joining_of, with_there}
 use Rattle.transfers.proofs.Marks.{marks, fewer}

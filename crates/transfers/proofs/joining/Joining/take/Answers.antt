@@ -1,4 +1,4 @@
-use Rattle.std.proofs.Common.{◌≡◌, [], inl, map, Ok, Err, refl, ap, rules}
+use Rattle.std.proofs.Common.{[], inl, map, Ok, Err, refl, ap, rules}
 use Rattle.std.proofs.lemmas.Result.{err_from_is_err_and}
 use Rattle.names.specs.Names.{labels}
 use Rattle.records.specs.Sets.{set_of}
