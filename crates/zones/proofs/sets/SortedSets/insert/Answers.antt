@@ -66,8 +66,8 @@ invariant_of-self-2 c =
     let a = labels s.apex in
     let at = c.args.at in
     let front = c.front_below-front.ensures ∙ (λ i. front_below (c.label_count.ensures i) (c.name.ensures i)) in
-    let items = c.insert.ensures.items ∙ cond-true (is_ok c.insert.result) (insert xs at x) xs (c.insert.ensures.succeeds c.requires.room.0) in
-    let fronts = c.insert-2.ensures.items ∙ cond-true (is_ok c.insert-2.result) (insert fs at c.front_below-front.result) fs (c.insert-2.ensures.succeeds c.requires.room.1) in
+    let items = c.insert.ensures.items ∙ cond-true (is_ok c.insert.result) (insert xs at x) xs (c.insert.ensures.succeeds (omega (arith, c.requires.room))) in
+    let fronts = c.insert-2.ensures.items ∙ cond-true (is_ok c.insert-2.result) (insert fs at c.front_below-front.result) fs (c.insert-2.ensures.succeeds (omega (arith, c.requires.room))) in
     let is = ap (map set_of) items ∙ put_in set_of xs x at c.requires.place in
     record {
       ordered = ap sorted is ∙ insert_sorted (set_of x) (sets_of s) s.ordered (new_so (sets_of s) (set_of x) c.requires.fresh);
@@ -79,4 +79,4 @@ pub returns-clause-sets : goal.returns-clause-sets
 returns-clause-sets c =
     let s = c.args.self.now in
     let xs = vec_items s.sets in
-    ap (map set_of) (c.insert.ensures.items ∙ cond-true (is_ok c.insert.result) (insert xs c.args.at c.args.set) xs (c.insert.ensures.succeeds c.requires.room.0)) ∙ put_in set_of xs c.args.set c.args.at c.requires.place
+    ap (map set_of) (c.insert.ensures.items ∙ cond-true (is_ok c.insert.result) (insert xs c.args.at c.args.set) xs (c.insert.ensures.succeeds (omega (arith, c.requires.room)))) ∙ put_in set_of xs c.args.set c.args.at c.requires.place
