@@ -12,8 +12,8 @@ pub record Putting (z y : Zone) (new left : List Set) : Type 0 where
   pub due : added_all y.apex y.sets left ≡ added_all z.apex z.sets new
   pub same : y ≡ with_sets z y.sets
 
-pub none_put : (z : Zone) (new left : List Set) → left ≡ new → Putting z z new left
-none_put z new left e = record { due = ap (added_all z.apex z.sets) e; same = refl }
+pub none_put : (z y : Zone) → y ≡ z → (new left : List Set) → left ≡ new → Putting z y new left
+none_put z y h new left e = record { due = (λ i. added_all (h i).apex (h i).sets (e i)); same = h ∙ (λ i. with_sets z (sym h i).sets) }
 
 taken_first : (y : Zone) (s : Set) (ss ts : List Set) → added y.apex y.sets s ≡ Ok ts → added_all y.apex y.sets (s ∷ ss) ≡ added_all y.apex ts ss
 unfolding added_all next

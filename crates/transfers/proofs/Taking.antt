@@ -101,7 +101,7 @@ judged_at a b old ss ts r e f h = subst (λ c. joined c old ts ≡ r) e (subst (
 
 pub by_judging : {A : Type 0} (p : Part) (j : Joining) (r : Result A Fault) → belongs_to j p ≡ true → is_there j.there p.head.part ≡ true → Judges j.apex [] p.sets r → Takes (take p j) j r j
 by_judging p j (Ok a) h k e = again p j _ h k e
-by_judging p j (Err f) h k e = inl (again_refused p j f h k e, refl)
+by_judging p j (Err f) h k e = (inl (again_refused p j f h k e), refl)
 
 no_ok : {A : Type 0} (x : A) (f : Fault) (due : Result A Fault) → due ≡ Ok x → due ≡ Err f → ⊥
 no_ok x f due e h = let q : Err f ≡ Ok x = sym h ∙ e in let w : ◌≡◌ {A = ℕ} 0 1 = cc in omega arith
@@ -116,13 +116,13 @@ module _ (p : Part) (j k : Joining) (xs : List Set) (e : joined j.apex j.sets p.
   pub put_so : (ss : List Set) → added_all j.apex j.sets p.sets ≡ Ok ss → ss ≡ xs
   put_so ss h = inner ss xs (added_all j.apex j.sets p.sets) h (none_refused j.apex j.sets p.sets xs e)
 
-  pub put_failed : (f : Fault) → (added_all j.apex j.sets p.sets ≡ Err f) ⊎ (f ≡ NoMemory) → f ≡ NoMemory
+  pub put_failed : (f : Fault) → (added_all j.apex j.sets p.sets ≡ Err f) ⊎ ((f ≡ NoMemory) × (k ≡ j)) → (f ≡ NoMemory) × (k ≡ j)
   put_failed f (inl h) = absurd (no_ok xs f (added_all j.apex j.sets p.sets) (none_refused j.apex j.sets p.sets xs e) h)
   put_failed f (inr h) = h
 
   pub by_putting : {A : Type 0} (r : Result A Fault) → belongs_to j p ≡ true → is_there j.there p.head.part ≡ false → Puts p j r k → Takes (take p j) j r k
   by_putting (Ok a) b t h = taken p j xs b t e ∙ ap (λ ss. Ok (with_part j p ss)) (sym (put_so h.0 h.1)) ∙ ap Ok (sym h.2)
-  by_putting (Err f) b t h = inr (put_failed f h.1, (h.0, h.2))
+  by_putting (Err f) b t h = let m = put_failed f h in (inr m.0, m.1)
 
 -- the first one is put into a zone without sets
 module _ (apex : List (List ℕ)) (p : Part) (j k : Joining) (xs : List Set) (new : j ≡ begun apex p) (e : joined apex [] p.sets ≡ Ok xs) where
@@ -134,5 +134,5 @@ module _ (apex : List (List ℕ)) (p : Part) (j k : Joining) (xs : List Set) (ne
       let so = put_so p j k xs beside_none ss h in
       first_taken apex p xs e l c ∙ (λ i. Ok (with_part (sym new i) p (sym so i))) ∙ ap Ok (sym is)
 
-  pub first_failed : (f : Fault) → (added_all j.apex j.sets p.sets ≡ Err f) ⊎ (f ≡ NoMemory) → f ≡ NoMemory
-  first_failed f h = put_failed p j k xs beside_none f h
+  pub first_failed : (f : Fault) → (added_all j.apex j.sets p.sets ≡ Err f) ⊎ ((f ≡ NoMemory) × (k ≡ j)) → f ≡ NoMemory
+  first_failed f h = (put_failed p j k xs beside_none f h).0

@@ -40,26 +40,24 @@ is_conflict _ = false
 
 -- ---- putting them in
 
+-- memory ends before the first or not at all
 abbrev pub PutsAll : {A : Type 0} → Zone → List Set → Result A Fault → Zone → Type 0
 PutsAll before new (Ok a) after = (ss : List Set) × (added_all before.apex before.sets new ≡ Ok ss) × (after ≡ with_sets before ss)
-PutsAll before new (Err f) after = (ss : List Set) × ((added_all before.apex before.sets new ≡ Err f) ⊎ (f ≡ NoMemory)) × (after ≡ with_sets before ss)
+PutsAll before new (Err f) after = (added_all before.apex before.sets new ≡ Err f) ⊎ ((f ≡ NoMemory) × (after ≡ before))
 
 abbrev pub with_there : Joining → List Bool → Joining
 with_there j bs = record { apex = j.apex; serial = j.serial; moment = j.moment; times = j.times; there = bs; sets = j.sets }
 
-abbrev pub holding : Joining → List Set → Joining
-holding j ss = record { apex = j.apex; serial = j.serial; moment = j.moment; times = j.times; there = j.there; sets = ss }
-
 abbrev pub Puts : {A : Type 0} → Part → Joining → Result A Fault → Joining → Type 0
 Puts p before (Ok a) after = (ss : List Set) × (added_all before.apex before.sets p.sets ≡ Ok ss) × (after ≡ with_part before p ss)
-Puts p before (Err f) after = (ss : List Set) × ((added_all before.apex before.sets p.sets ≡ Err f) ⊎ (f ≡ NoMemory)) × (after ≡ holding before ss)
+Puts p before (Err f) after = (added_all before.apex before.sets p.sets ≡ Err f) ⊎ ((f ≡ NoMemory) × (after ≡ before))
 
 -- ---- the calls
 
--- a refusal changes nothing; where memory ran out the sets may have changed, and nothing else
+-- a part does what is due, or is refused with the due fault or for want of memory, and all is as it was
 abbrev pub Takes : {A : Type 0} → Result Joining Fault → Joining → Result A Fault → Joining → Type 0
 Takes due before (Ok a) after = due ≡ Ok after
-Takes due before (Err f) after = ((due ≡ Err f) × (after ≡ before)) ⊎ ((f ≡ NoMemory) × ((ss : List Set) × (after ≡ holding before ss)))
+Takes due before (Err f) after = ((due ≡ Err f) ⊎ (f ≡ NoMemory)) × (after ≡ before)
 
 abbrev pub Finishes : Joining → Result zones.Zone declared.Joining → Type 0
 Finishes j (Ok z) = (is_complete j.there ≡ true) × (zone_of z ≡ zone_in j)

@@ -17,9 +17,11 @@ use std::alloc::Global;
 use wire::PartPacket;
 use zones::{MAX_SETS, Zone};
 
+// Room for all of them first, so that none comes in where memory ends.
 fn put_all(zone: &mut Zone, sets: Vec<RecordSet>) -> Result<(), Fault>
     ensures { PutsAll (zone_of zone.old) (map set_of sets.items) result (zone_of zone.new) }
 {
+    zone.reserve(sets.len())?;
     for set in sets {
         zone.insert(set)?;
     }
@@ -60,8 +62,7 @@ impl Joining {
         Ok(joining)
     }
 
-    // A part that is there already changes nothing, and a refused one neither; only where memory ran out some of its sets may
-    // have come in, and then the transfer is to be given up.
+    // A part that is there already changes nothing, and a refused one neither.
     pub fn take(&mut self, part: PartPacket) -> Result<(), Fault>
         ensures { Takes (take (part_of part) (joining_of self.old)) (joining_of self.old) result (joining_of self.new) }
     {

@@ -54,7 +54,7 @@ returns-in_err-put c =
     let r = err_from_is_err_and c.from_residual-in_err-put.result c.from_residual-in_err-put.ensures.1 in
     let alone = judged_at apex apex [] (map set_of c.as_slice.result.now) p.sets (Ok (insert_all (map set_of c.as_slice.result.now) [])) refl slice c.in_ok-check_alone.ensures in
     let h = c.in_err-put.ensures in
-    rw (r.1, r.2) (inr (first_failed apex p (joining_from (zone_of c.new.result) p.head.moment bs) (joining_of c.put.new.self) (insert_all (map set_of c.as_slice.result.now) []) new alone c.in_err-put.field-0.0 h.1))
+    rw (r.1, r.2) (inr (first_failed apex p (joining_from (zone_of c.new.result) p.head.moment bs) (joining_of c.put.new.self) (insert_all (map set_of c.as_slice.result.now) []) new alone c.in_err-put.field-0.0 h))
 
 pub returns : goal.returns
 returns c =

@@ -14,14 +14,14 @@ returns-in_err-check_alone c =
     let p = part_of c.args.part in
     let r = err_from_is_err_and c.from_residual.result c.from_residual.ensures.1 in
     let slice = ap (map set_of) c.as_slice-sets.ensures.value in
-    rw (r.1, r.2) (inl (strange_refused p j c.in_err-check_alone.field-0.0 (search rules) (judged_at (labels c.apex.result.now) j.apex [] (map set_of c.as_slice-sets.result.now) p.sets (Err c.in_err-check_alone.field-0.0) c.apex.ensures slice c.in_err-check_alone.ensures), refl))
+    rw (r.1, r.2) (inl (strange_refused p j c.in_err-check_alone.field-0.0 (search rules) (judged_at (labels c.apex.result.now) j.apex [] (map set_of c.as_slice-sets.result.now) p.sets (Err c.in_err-check_alone.field-0.0) c.apex.ensures slice c.in_err-check_alone.ensures)), refl)
 
 pub returns-then-not-is_of_same : goal.returns-then-not-is_of_same
 returns-then-not-is_of_same c =
     let j = joining_of c.args.self.now in
     let p = part_of c.args.part in
     let slice = ap (map set_of) c.as_slice-sets.ensures.value in
-    inl (strange p j (insert_all (map set_of c.as_slice-sets.result.now) []) (search rules) (judged_at (labels c.apex.result.now) j.apex [] (map set_of c.as_slice-sets.result.now) p.sets (Ok (insert_all (map set_of c.as_slice-sets.result.now) [])) c.apex.ensures slice c.in_ok-check_alone.ensures), refl)
+    (inl (strange p j (insert_all (map set_of c.as_slice-sets.result.now) []) (search rules) (judged_at (labels c.apex.result.now) j.apex [] (map set_of c.as_slice-sets.result.now) p.sets (Ok (insert_all (map set_of c.as_slice-sets.result.now) [])) c.apex.ensures slice c.in_ok-check_alone.ensures)), refl)
 
 pub returns-then-is_there : goal.returns-then-is_there
 returns-then-is_there c =
@@ -36,7 +36,7 @@ returns-in_err-check_beside c =
     let p = part_of c.args.part in
     let r = err_from_is_err_and c.from_residual-in_err-check_beside.result c.from_residual-in_err-check_beside.ensures.1 in
     let slice = ap (map set_of) c.as_slice-sets.ensures.value in
-    rw (r.1, r.2) (inl (taken_refused p j c.in_err-check_beside.field-0.0 (search rules) (search rules) (judged_at j.apex j.apex j.sets (map set_of c.as_slice-sets.result.now) p.sets (Err c.in_err-check_beside.field-0.0) refl slice c.in_err-check_beside.ensures), refl))
+    rw (r.1, r.2) (inl (taken_refused p j c.in_err-check_beside.field-0.0 (search rules) (search rules) (judged_at j.apex j.apex j.sets (map set_of c.as_slice-sets.result.now) p.sets (Err c.in_err-check_beside.field-0.0) refl slice c.in_err-check_beside.ensures)), refl)
 
 pub returns : goal.returns
 returns c =
