@@ -14,7 +14,7 @@ use names::{Fault, Name};
 use records::RecordSet;
 use zones::{MAX_SETS, Zone};
 
-// Most names differ in length, which is seen at once.
+// Names of different lengths are told apart at once.
 fn is_at(set: &RecordSet, name: &Name) -> bool
     ensures { result ≡ same (set_of set.now).name (labels name.now) }
 {
@@ -108,7 +108,7 @@ fn any_conflict(zone: &Zone, sets: &[RecordSet]) -> bool
 }
 
 // Whether the sets may come into a zone that has no others.
-pub fn check_alone(apex: &Name, sets: &[RecordSet]) -> Result<(), Fault>
+pub(super) fn check_alone(apex: &Name, sets: &[RecordSet]) -> Result<(), Fault>
     ensures { Judges (labels apex.now) [] (map set_of sets.now) result }
 {
     if any_outside(apex, sets) || any_twice(sets) {
@@ -124,7 +124,7 @@ pub fn check_alone(apex: &Name, sets: &[RecordSet]) -> Result<(), Fault>
 }
 
 // Whether they may come beside those that are there.
-pub fn check_beside(zone: &Zone, sets: &[RecordSet]) -> Result<(), Fault>
+pub(super) fn check_beside(zone: &Zone, sets: &[RecordSet]) -> Result<(), Fault>
     ensures { Judges (zone_of zone.now).apex (zone_of zone.now).sets (map set_of sets.now) result }
 {
     if any_twice(sets) || any_misplaced(zone, sets) {

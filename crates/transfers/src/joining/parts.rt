@@ -9,7 +9,7 @@ use wire::PartPacket;
 use zones::Times;
 
 // Parts are counted from 1, and of several none is without sets.
-pub fn is_counted(part: &PartPacket) -> bool
+pub(super) fn is_counted(part: &PartPacket) -> bool
     ensures { result ≡ is_counted (part_of part.now) }
 {
     let head = part.head;
@@ -27,7 +27,7 @@ impl Joining {
     }
 
     // Of the same version, cut into as many.
-    pub fn is_of_same(&self, part: &PartPacket) -> bool
+    pub(super) fn is_of_same(&self, part: &PartPacket) -> bool
         ensures { result ≡ belongs_to (joining_of self.now) (part_of part.now) }
     {
         let head = part.head;
@@ -38,7 +38,7 @@ impl Joining {
             && is_counted(part)
     }
 
-    pub fn is_there(&self, number: u16) -> bool
+    pub(super) fn is_there(&self, number: u16) -> bool
         ensures { result ≡ is_there (joining_of self.now).there number }
     {
         let Some(at) = usize::from(number).checked_sub(1) else {
@@ -48,7 +48,7 @@ impl Joining {
     }
 
     // One more is there.
-    pub fn mark(&mut self, number: u16)
+    pub(super) fn mark(&mut self, number: u16)
         requires counted { 1 ≤ number }
         requires inside { number ≤ length (joining_of self.old).there }
         requires fresh { is_there (joining_of self.old).there number ≡ false }
