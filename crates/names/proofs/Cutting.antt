@@ -1,5 +1,5 @@
 -- Names on the wire: the loop that cuts their labels, and the round trip.
-use Rattle.std.proofs.Common.{◌≡◌, ℕ, zero, suc, ◌-◌, ◌<◌, ◌≤◌, Bool, true, false, cond, leb, List, [], ◌∷◌, ◌++◌, length, get_or, take, drop, Some, None, Ok, Err, MatchResult, Option, Result, sym, refl, ap, ◌∙◌, true≢false, append_assoc, append-nil, arith, length-append}
+use Rattle.std.proofs.Common.{◌≡◌, ℕ, zero, suc, ◌-◌, ◌<◌, ◌≤◌, Bool, true, false, cond, leb, List, [], ◌∷◌, ◌++◌, length, get_or, take, drop, Some, None, Ok, Err, Option, Result, sym, refl, ap, ◌∙◌, true≢false, append_assoc, append-nil, arith, length-append}
 use Rattle.std.specs.List.{between}
 use Rattle.std.proofs.lemmas.Slice.{first_rest}
 use Rattle.std.proofs.lemmas.List.{take_at, drop_at, take-append-drop, length-take-le}
@@ -7,8 +7,7 @@ use Rattle.std.proofs.lemmas.Bool.{cond-true, cond-false, le-leb, leb-true}
 use Rattle.names.specs.declared.fault.Fault.{Fault}
 use Rattle.names.specs.declared.fault.Fault.TheVariants.{Malformed, BadName}
 use Rattle.names.specs.Labels.{proper, written}
-use Rattle.names.specs.declared.name.Name.{Name}
-use Rattle.names.specs.Names.{labels, name_of, given}
+use Rattle.names.specs.Names.{name_of, one_more}
 use Rattle.names.specs.Wire.{wire_labels, wire, cut_label, behind, cut_labels, judged, read_wire, WireLaws}
 use Rattle.names.proofs.Proper.{proper_front}
 
@@ -74,16 +73,6 @@ improper ls ms h = go (proper (ls ++ ms)) refl
     go : (b : Bool) → proper (ls ++ ms) ≡ b → proper (ls ++ ms) ≡ false
     go true e = absurd (true≢false (sym (proper_front ls ms e) ∙ h))
     go false e = e
-
--- what comes of a name and one label more
-abbrev pub one_more : Result (List (List ℕ)) Fault → List ℕ → Result (List (List ℕ)) Fault
-one_more (Ok ls) l = name_of (ls ++ l ∷ [])
-one_more (Err f) l = Err f
-
--- by what `and_then` says of it
-pub one_then : (n r : Result Name Fault) (l : List ℕ) → MatchResult n (λ x. given r ≡ name_of (labels x ++ l ∷ [])) (λ f. r ≡ Err f) → given r ≡ one_more (given n) l
-one_then (Ok x) r l h = h
-one_then (Err f) r l h = ap given h
 
 one_named : (ls : List (List ℕ)) (l : List ℕ) → one_more (name_of ls) l ≡ name_of (ls ++ l ∷ [])
 one_named ls l = go (proper ls) refl

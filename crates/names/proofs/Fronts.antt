@@ -1,13 +1,13 @@
 -- Fronts that differ decide the order of names; and how one is packed.
 use Rattle.std.specs.List.{slice_get}
 use Rattle.std.specs.Option.{option_map}
-use Rattle.std.proofs.Common.{◌≡◌, Some, None, Option, MatchOption, min, ◌++◌, take, ℕ, zero, suc, ◌+◌, ◌-◌, ◌*◌, ◌<◌, ◌≤◌, true, ◌&&◌, ltb, leb, ◌⊎◌, List, [], ◌∷◌, length, get_or, drop, Ordering, Less, Equal, Greater, sym, refl, ap, ◌∙◌, inl, inr, ⊎_elim, true≢false, arith}
+use Rattle.std.proofs.Common.{◌≡◌, Some, None, Option, MatchOption, min, ◌++◌, take, ℕ, zero, suc, ◌+◌, ◌-◌, ◌*◌, ◌<◌, ◌≤◌, true, ◌&&◌, leb, ◌⊎◌, List, [], ◌∷◌, length, get_or, drop, Ordering, Less, Equal, Greater, sym, refl, ap, ◌∙◌, inl, inr, ⊎_elim, true≢false, arith}
 use Rattle.std.specs.Cmp.{ranks}
 use Rattle.std.specs.Int.{from_be_bytes, w64}
 use Rattle.std.proofs.lemmas.Grind.{common_steps}
-use Rattle.std.specs.Ordering.{is_lt, ordering_reverse, ordering_then, MatchOrdering, nat_cmp}
+use Rattle.std.specs.Ordering.{is_lt, ordering_then, MatchOrdering, nat_cmp}
 use Rattle.std.proofs.lemmas.List.{drop_more, drop_all, get_or_past}
-use Rattle.std.proofs.lemmas.Bool.{and_parts, cases_lt, lt-ltb, le-ltb}
+use Rattle.std.proofs.lemmas.Bool.{and_parts, cases_lt}
 use Rattle.std.proofs.lemmas.Bool.Decides.{nat_tests}
 use Rattle.names.specs.declared.name.Name.{Name}
 use Rattle.names.specs.Fronts.{packed, front, first_front, front_below}
@@ -15,7 +15,7 @@ use Rattle.names.specs.Labels.{label_byte, label_bytes, proper_label, proper_lab
 use Rattle.names.specs.Names.{labels}
 use Rattle.names.specs.Order.{label_order, within, order}
 use Rattle.names.proofs.Laws.{labels_proper}
-use Rattle.names.proofs.Order.{order_below, order_flip}
+use Rattle.names.proofs.Order.{order_below}
 use Rattle.names.proofs.Proper.{limits}
 
 -- ---- one byte more

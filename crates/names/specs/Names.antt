@@ -1,5 +1,5 @@
 -- What a `Name` stands for: its labels from the root down.
-use Rattle.std.specs.Prelude.{◌≡◌, ℕ, cond, List, [], ◌∷◌, length, take, Some, None, Ok, Err, Option, Result}
+use Rattle.std.specs.Prelude.{◌≡◌, ℕ, Bool, cond, List, [], ◌∷◌, ◌++◌, length, take, Some, None, Ok, Err, Option, Result}
 use Rattle.names.specs.declared.fault.Fault.{Fault}
 use Rattle.names.specs.declared.fault.Fault.TheVariants.{BadName}
 use Rattle.names.specs.declared.name.Name.{Name}
@@ -22,6 +22,15 @@ given (Err f) = Err f
 abbrev pub parent_of : List (List ℕ) → Option (List (List ℕ))
 parent_of [] = None
 parent_of (l ∷ ls) = Some (take (length ls) (l ∷ ls))
+
+-- a name, unless a label of it was bad
+abbrev pub made : Bool → List (List ℕ) → Result (List (List ℕ)) Fault
+made bad ls = cond bad (Err BadName) (Ok ls)
+
+-- with one label more, unless it was refused before
+abbrev pub one_more : Result (List (List ℕ)) Fault → List ℕ → Result (List (List ℕ)) Fault
+one_more (Ok ls) l = name_of (ls ++ l ∷ [])
+one_more (Err f) l = Err f
 
 -- a call that changes a state does what is due, or refuses with the due fault and leaves the state
 abbrev pub Does : {S A : Type 0} → Result S Fault → S → Result A Fault → S → Type 0

@@ -9,6 +9,9 @@ use Rattle.protocol.specs.Words.{Name}
 use Rattle.protocol.specs.World.{Query, Response}
 use Rattle.cache.specs.Entries.{word_of}
 use Rattle.questions.specs.Queries.{query_of}
+use Rattle.wire.specs.Packets as wire
+use Rattle.wire.specs.Packets.{query_bytes, response_bytes}
+use Rattle.wire.specs.Replies.{response_for}
 use Rattle.zonetext.specs.declared.refusal.Refusal.{Refusal}
 use Rattle.zonetext.specs.Numbered.{refusal_of}
 use Rattle.zonetext.specs.Texts.{top_in, text_meaning}
@@ -38,6 +41,14 @@ telling_of t = record {
 abbrev pub packet_of : rust.Packet → Packet
 packet_of (rust_packet.Query a) = Asking a.asker (query_of a.query)
 packet_of (rust_packet.Response t) = Responding (telling_of t)
+
+-- as they go over the net
+abbrev pub asked_in : Query → wire.Query
+asked_in q = record { id = q.id; apex = q.apex; kind = q.kind; name = q.name }
+
+abbrev pub bytes_for : Packet → List ℕ
+bytes_for (Asking a q) = query_bytes (asked_in q)
+bytes_for (Responding t) = response_bytes (response_for t.response.id t.response.apex t.response.word.ttl t.response.word.said)
 
 -- a text is read in the place of the zone that is there of its own apex
 abbrev pub Renews : (Name → Option model.Zone) → List ℕ → Result Zone Refusal → Type 0

@@ -1,14 +1,16 @@
-// Plays a script from standard input, up to its end or its first faulty line: `valley [FOLDER]`, where the zones' texts stand
-// in FOLDER, or where it is started.
+// Plays a script from standard input, up to its end or its first faulty line: `valley [-x] [FOLDER]`, where the zones' texts
+// stand in FOLDER, or where it is started; with `-x` it shows the bytes of each packet too.
 #![tactic(auto)]
 
 mod ages;
+mod bytes;
 mod clock;
 mod ids;
 mod net;
 mod owners;
 mod print;
 mod servers;
+mod settings;
 mod stop;
 mod texts;
 mod valley;
@@ -17,29 +19,19 @@ mod walk;
 use crate::valley::Valley;
 use print::report;
 use script::read_command;
+use settings::Settings;
 use std::alloc::Global;
+use std::io;
 use std::io::{BufRead, BufReader};
-use std::{env, io};
 use stop::Stop;
-use texts::Texts;
 
 fn play_line(rt: &HostRuntime, valley: &mut Valley, line: u64, bytes: &[u8]) -> Result<(), Stop> {
     let command = read_command(rt.alloc(), bytes)?;
     valley.play(rt, line, command)
 }
 
-fn folder(rt: &HostRuntime, heap: Global) -> io::Result<String> {
-    let mut args = env::args(rt)?;
-    let _program = args.next();
-    match args.next() {
-        Some(folder) => Ok(folder),
-        None => Ok(".".to_string(heap)?),
-    }
-}
-
 fn run(rt: &HostRuntime, heap: Global) -> io::Result<()> {
-    let texts = Texts::new(folder(rt, heap)?);
-    let mut valley = match Valley::new(heap, texts) {
+    let mut valley = match Valley::new(heap, Settings::read(rt, heap)?) {
         Ok(valley) => valley,
         Err(fault) => return report(rt, 0, fault),
     };

@@ -10,6 +10,7 @@ ghost use Rattle.valley.specs.Packets.{telling_of, packet_of};
 use cache::{Moment, QueryId, Word};
 use names::{Fault, Name};
 use questions::Query;
+use records::Kind;
 use resolver::Response;
 use std::alloc::Global;
 
@@ -20,13 +21,14 @@ pub struct Asked {
     pub query: Query,
 }
 
-// A response, and to whom; the server had the zone as of the moment, which the response doesn't carry.
+// A response, and to whom. It carries neither the kind that was asked for nor the moment as of which the server had the zone.
 #[derive(Drop)]
 pub struct Told {
     pub asker: u64,
     pub server: u64,
     pub id: QueryId,
     pub apex: Name,
+    pub kind: Kind,
     pub word: Word,
     pub moment: Moment,
 }
@@ -61,6 +63,7 @@ impl Told {
             server: self.server,
             id: self.id,
             apex: self.apex,
+            kind: self.kind,
             word,
             moment: self.moment,
         })

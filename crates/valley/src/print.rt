@@ -80,6 +80,15 @@ pub fn print_packet(rt: &HostRuntime, number: u64, packet: &Packet) -> io::Resul
     }
 }
 
+// As they go over the net, in hexadecimal.
+pub fn print_bytes(rt: &HostRuntime, bytes: &[u8]) -> io::Result<()> {
+    print!(rt; "  ")?;
+    for byte in bytes {
+        print!(rt; "{byte:02x}")?;
+    }
+    println!(rt; "")
+}
+
 fn print_answer(rt: &HostRuntime, resolver: &Resolver, answer: Answer) -> io::Result<()> {
     match answer {
         Answer::At(place) => match resolver.cache().get(place) {

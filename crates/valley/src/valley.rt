@@ -5,14 +5,17 @@ ghost use Rattle.valley.specs.Owning.{published_by};
 ghost use Rattle.valley.specs.Packets.{Renews};
 
 use crate::ages::Ages;
+use crate::bytes::bytes_of;
 use crate::clock::Clock;
 use crate::ids::Ids;
 use crate::net::{Asked, Net, Packet, Told};
 use crate::owners::Owners;
-use crate::print::{print_meaning, print_packet, print_refusal, print_shown, print_way, report};
+use crate::print::{
+    print_bytes, print_meaning, print_packet, print_refusal, print_shown, print_way, report,
+};
 use crate::servers::{OWNERS_SERVER, Servers};
+use crate::settings::Settings;
 use crate::stop::Stop;
-use crate::texts::Texts;
 use crate::walk::meant;
 use cache::Moment;
 use names::{Fault, Name};
@@ -31,7 +34,7 @@ const ASKERS: u64 = 4;
 #[derive(Drop)]
 pub struct Valley {
     clock: Clock,
-    texts: Texts,
+    settings: Settings,
     owners: Owners,
     servers: Servers,
     // By their numbers, from 1.
@@ -55,10 +58,10 @@ fn place_of(asker: u64) -> usize {
 }
 
 impl Valley {
-    pub fn new(heap: Global, texts: Texts) -> Result<Valley, Fault> {
+    pub fn new(heap: Global, settings: Settings) -> Result<Valley, Fault> {
         Ok(Valley {
             clock: Clock::new(),
-            texts,
+            settings,
             owners: Owners::new(heap),
             servers: Servers::new(heap),
             askers: askers(heap)?,
@@ -89,6 +92,9 @@ impl Valley {
         let number = self.net.send(packet)?;
         if let Some(packet) = self.net.get(number) {
             print_packet(rt, number, packet)?;
+            if self.settings.shows_bytes {
+                print_bytes(rt, bytes_of(rt.alloc(), packet)?.as_slice())?;
+            }
         }
         Ok(())
     }
@@ -175,6 +181,7 @@ impl Valley {
             server,
             id: asked.query.id,
             apex: key.apex,
+            kind: key.kind,
             word,
             moment,
         }))
@@ -240,7 +247,7 @@ impl Valley {
     // A faulty text is told with its line, and changes nothing.
     fn publish(&mut self, rt: &HostRuntime, line: u64, file: &[u8]) -> Result<(), Stop> {
         let file = String::from_utf8_lossy(rt.alloc(), file)?;
-        let text = self.texts.read(rt, file.as_str())?;
+        let text = self.settings.texts.read(rt, file.as_str())?;
         match self.zone_in(rt.alloc(), text.as_slice()) {
             Ok(zone) => {
                 let now = self.now();

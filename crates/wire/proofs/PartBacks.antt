@@ -1,21 +1,19 @@
 -- What was written of a part is read.
-use Rattle.std.proofs.Common.{◌≡◌, ℕ, ◌<◌, ◌≤◌, Bool, true, false, not, ◌&&◌, ◌||◌, eqb, leb, ltb, List, [], ◌∷◌, ◌++◌, map, length, Some, Ok, Err, sym, refl, ap, ◌∙◌, append_assoc, append-nil, arith, length-append}
+use Rattle.std.proofs.Common.{◌≡◌, ℕ, ◌<◌, ◌≤◌, Bool, true, false, not, ◌&&◌, ◌||◌, eqb, leb, ltb, List, [], ◌∷◌, ◌++◌, map, length, Some, Ok, sym, refl, ap, ◌∙◌, append_assoc, append-nil, arith, length-append}
 use Rattle.std.specs.Int.{w16, w32, w64, to_be_bytes}
 use Rattle.std.specs.Option.{option_map}
-use Rattle.std.proofs.lemmas.Bool.{cond-true, and_parts, eqb-true, leb-true, ltb-true}
-use Rattle.names.specs.declared.fault.Fault.TheVariants.{BadData, StaleSerial}
+use Rattle.std.proofs.lemmas.Bool.{and_parts, eqb-true, leb-true}
 use Rattle.names.specs.Labels.{proper, written}
-use Rattle.names.specs.Reading.{read_name}
-use Rattle.names.specs.Wire.{wire_labels, wire}
+use Rattle.names.specs.Wire.{wire}
 use Rattle.names.proofs.RoundTrip.{written_laws}
 use Rattle.meaning.specs.Model.{is_kind, is_serial, delegates, aliases, plain, pieces_fit, Content, Addresses, Texts, Others, AliasOf, Delegated, fits, Set}
 use Rattle.meaning.specs.Transfer.{pieces, transferred, all_transferred}
 use Rattle.meaning.proofs.Carried.{length_transferred, length_none}
 use Rattle.wire.specs.Cuts.{then, next}
-use Rattle.wire.specs.Shapes.{SetShape, Times, Head, cut_set, sets_in, cut_times, cut_head, sets_behind, part_shape}
+use Rattle.wire.specs.Shapes.{SetShape, Times, Head, cut_set, sets_in, cut_times, cut_head, part_shape}
 use Rattle.wire.specs.Packets.{IsPart, packet_in}
-use Rattle.wire.specs.Parts.{Part, are_addresses, last_name, alias_of, content_in, set_in, with_set, with_sets, all_sets, part_in, head_bytes, part_bytes, times_keep, head_keeps, content_keeps, set_keeps, sets_keep, sets_belong, part_keeps}
-use Rattle.wire.proofs.Backs.{eight_back, four_back, two_back, byte_back, name_named, kind_named, short_shaped}
+use Rattle.wire.specs.Parts.{Part, last_name, alias_of, content_in, set_in, with_set, with_sets, part_in, head_bytes, part_bytes, times_keep, head_keeps, content_keeps, set_keeps, sets_keep, sets_belong, part_keeps}
+use Rattle.wire.proofs.Backs.{eight_back, four_back, two_back, byte_back, short_shaped}
 use Rattle.wire.proofs.Cutting.{list_back}
 use Rattle.wire.proofs.Naming.{no_sets, sets_step}
 use Rattle.wire.proofs.Partly.{sets_there}

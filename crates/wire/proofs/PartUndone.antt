@@ -12,7 +12,7 @@ use Rattle.names.specs.Wire.{wire}
 use Rattle.names.proofs.RoundTrip.{written_laws}
 use Rattle.meaning.specs.Model.{is_kind, is_serial, delegates, aliases, Content, Addresses, Texts, Others, AliasOf, Delegated, fits, Set}
 use Rattle.meaning.specs.Transfer.{pieces, transferred, all_transferred}
-use Rattle.wire.specs.Cuts.{at_end, then, next}
+use Rattle.wire.specs.Cuts.{at_end}
 use Rattle.wire.specs.Laws.{are_bytes}
 use Rattle.wire.specs.Shapes.{SetShape, Times, Head, PartShape, cut_set, sets_upto, sets_in, cut_times, cut_head, sets_behind, part_shape}
 use Rattle.wire.specs.Parts.{Part, are_addresses, addresses_from, last_name, alias_of, alias_to, content_in, set_in, lower, with_set, with_sets, all_sets, part_in, times_bytes, head_bytes, part_bytes, times_keep, head_keeps, content_keeps, set_keeps, sets_keep, sets_belong, part_keeps}

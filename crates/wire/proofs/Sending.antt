@@ -1,7 +1,7 @@
 -- A part written set by set.
-use Rattle.std.proofs.Common.{◌≡◌, ℕ, ◌+◌, ◌<◌, ◌≤◌, true, ◌&&◌, List, [], ◌∷◌, ◌++◌, map, length, get_or, take, Option, sym, refl, ap, ◌∙◌, append_assoc, append-nil}
+use Rattle.std.proofs.Common.{◌≡◌, ℕ, ◌+◌, ◌<◌, ◌≤◌, true, List, [], ◌∷◌, ◌++◌, map, length, get_or, take, Option, sym, refl, ap, ◌∙◌, append_assoc, append-nil}
 use Rattle.std.proofs.lemmas.Bool.{and_from, and_parts}
-use Rattle.std.proofs.lemmas.List.{take_more, map-append}
+use Rattle.std.proofs.lemmas.List.{take_more, take_all, map-append}
 use Rattle.meaning.specs.Model.{Set}
 use Rattle.meaning.specs.Transfer.{transferred, all_transferred}
 use Rattle.records.specs.declared.set.RecordSet.{RecordSet}
@@ -54,3 +54,6 @@ module _ (h : PartHead) (xs : List RecordSet) where
             ∙ ap (joined before) (part_more (head_of h) (map set_of (take i xs)) (set_of x) ∙ ap (λ ss. part_bytes (record { head = head_of h; sets = ss })) (sym t));
         kept = ap sets_keep t ∙ keep_more (map set_of (take i xs)) (set_of x) s.kept kept;
       }
+
+  pub all_sent : (before now : Option (List ℕ)) (i : ℕ) → Sent h xs before now i → length xs ≤ i → sets_keep (map set_of xs) ≡ true
+  all_sent before now i s l = ap (λ ys. sets_keep (map set_of ys)) (sym (take_all i xs l)) ∙ s.kept

@@ -1,5 +1,5 @@
 -- The ends of a packet: its first byte, and that nothing is left over.
-use Rattle.std.proofs.Common.{◌≡◌, ℕ, ◌<◌, ◌≤◌, false, true, cond, eqb, leb, List, [], ◌∷◌, length, Some, None, Err, Option, ap, refl, true≢false, sym, ◌∙◌, arith}
+use Rattle.std.proofs.Common.{◌≡◌, ℕ, ◌<◌, ◌≤◌, false, true, eqb, leb, List, [], ◌∷◌, length, Some, None, Err, Option, ap, refl, true≢false, sym, ◌∙◌, arith}
 use Rattle.std.proofs.lemmas.Bool.{eqb-true, eq-eqb, cond-true, cond-false, le-leb, lt-leb, ne_eqb}
 use Rattle.std.specs.Option.{option_map}
 use Rattle.names.specs.declared.fault.Fault.TheVariants.{Malformed}

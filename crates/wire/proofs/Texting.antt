@@ -1,5 +1,5 @@
 -- A name written as text, from its lowest label up.
-use Rattle.std.proofs.Common.{◌≡◌, ℕ, List, [], ◌∷◌, ◌++◌, Option, sym, refl, ap, ◌∙◌, append_assoc}
+use Rattle.std.proofs.Common.{◌≡◌, ℕ, List, [], ◌∷◌, ◌++◌, Option, sym, ap, ◌∙◌, append_assoc}
 use Rattle.names.specs.Labels.{written}
 use Rattle.names.proofs.RoundTrip.{written_one, written_highest, written_root}
 use Rattle.wire.specs.Given.{joined}

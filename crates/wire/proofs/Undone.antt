@@ -16,7 +16,7 @@ use Rattle.records.specs.Numbers.{kind_of}
 use Rattle.wire.specs.Cuts.{cut_byte, cut_number, cut_list, cut_list_if, cut_what, then, at_end, next}
 use Rattle.wire.specs.Shapes.{QueryShape, ResponseShape, RequestShape, names_one, query_shape, response_shape, request_shape}
 use Rattle.wire.specs.Parts.{are_addresses}
-use Rattle.wire.specs.Packets.{Query, Told, Data, Alias, Referral, NoData, NoName, Nowhere, TooLong, Response, Request, query_in, told_in, allowed, response_in, request_in, few, placed, query_bytes, what_of, told_bytes, response_bytes, request_bytes, query_keeps, told_keeps, response_keeps, request_keeps}
+use Rattle.wire.specs.Packets.{Query, Told, Data, Alias, Referral, NoData, NoName, Nowhere, TooLong, Response, Request, query_in, told_in, allowed, response_in, request_in, few, placed, query_bytes, what_of, told_bytes, response_bytes, request_bytes, query_keeps, told_keeps, told_sound, response_keeps, request_keeps}
 use Rattle.wire.specs.Laws.{are_bytes}
 use Rattle.wire.proofs.Copying.{same_pair}
 
@@ -245,16 +245,6 @@ what_undone bs w rest h =
     cond_some true x y k = (refl, some_same x y k)
     cond_some false x y k = cc
 
--- the names are names, and the servers addresses
-pub told_sound : Told → Bool
-told_sound (Data ps) = true
-told_sound (Alias n) = proper n
-told_sound (Referral n ps) = proper n && are_addresses ps
-told_sound NoData = true
-told_sound NoName = true
-told_sound Nowhere = true
-told_sound TooLong = true
-
 pub record ToldRead (w : ℕ) (bs : List ℕ) (t : Told) : Type 0 where
   pub what : what_of t ≡ w
   pub so : told_bytes t ≡ bs
@@ -280,7 +270,7 @@ unfolding cut_list_if
 named bs name rest u h = (list_undone bs name rest u h).so
 
 told_undone : (w : ℕ) (bs name rest : _) (ps : List (List ℕ)) (t : Told) → are_bytes bs ≡ true → leb 1 w && leb w 7 ≡ true → cut_list_if (names_one w) bs ≡ Some (name, rest) → wire ps ≡ rest → proper name ≡ true → told_in w name ps ≡ Ok t → ToldRead w bs t
-unfolding told_in told_sound
+unfolding told_in
 told_undone zero bs name rest ps t u l c a n h = cc
 told_undone (suc zero) bs name rest ps t u l c a n h =
     subst (ToldRead 1 bs) (ok_same (Data ps) t h) (record { what = refl; so = a ∙ sym (no_name bs name rest c); sound = refl })
@@ -301,8 +291,7 @@ told_undone (suc (suc (suc (suc (suc (suc (suc (suc w)))))))) bs name rest ps t 
     let q = leb-true (suc (suc (suc (suc (suc (suc (suc (suc w)))))))) 7 p.1 in
     absurd (omega arith)
 
-allowed_undone : (apex : List (List ℕ)) (t y : Told) → told_sound t ≡ true → allowed apex t ≡ Ok y → (t ≡ y) × (told_keeps apex t ≡ true)
-unfolding told_sound
+pub allowed_undone : (apex : List (List ℕ)) (t y : Told) → told_sound t ≡ true → allowed apex t ≡ Ok y → (t ≡ y) × (told_keeps apex t ≡ true)
 allowed_undone apex (Data ps) y s h = let p = passed (pieces_fit ps) (Ok (Data ps)) y BadData h in (ok_same (Data ps) y p.1, p.0)
 allowed_undone apex (Alias n) y s h = (ok_same (Alias n) y h, s)
 allowed_undone apex (Referral n ps) y s h =

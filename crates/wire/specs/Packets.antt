@@ -168,6 +168,16 @@ told_keeps apex NoName = true
 told_keeps apex Nowhere = true
 told_keeps apex TooLong = true
 
+-- the names are names, and the servers addresses
+abbrev pub told_sound : Told → Bool
+told_sound (Data ps) = true
+told_sound (Alias n) = proper n
+told_sound (Referral n ps) = proper n && are_addresses ps
+told_sound NoData = true
+told_sound NoName = true
+told_sound Nowhere = true
+told_sound TooLong = true
+
 abbrev pub response_keeps : Response → Bool
 response_keeps r = nat_lt r.id (2 ^ 64) && proper r.apex && nat_lt r.ttl (2 ^ 32) && told_keeps r.apex r.told
 

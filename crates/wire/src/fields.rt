@@ -1,10 +1,11 @@
 // The fields of a packet, taken off its front one by one.
-ghost use Rattle.std.specs.Prelude.{◌≡◌, [], length, nat_eq, MatchOption};
+ghost use Rattle.std.specs.Prelude.{◌≡◌, ℕ, List, [], length, nat_eq, MatchOption};
 ghost use Rattle.std.specs.Option.{option_map};
 ghost use Rattle.std.specs.Int.{w16, w32, w64};
 ghost use Rattle.wire.specs.Cuts.{cut_byte, cut_number, cut_list, cut_list_if, cut_what};
 ghost use Rattle.wire.specs.Fields.{unread, Takes, TakesNumber, IsList, IsName, TakesWhat};
-ghost use Rattle.names.specs.Wire.{cut_label};
+ghost use Rattle.names.specs.Names.{given, name_of};
+ghost use Rattle.names.specs.Wire.{wire, cut_label};
 
 use crate::what::What;
 use names::{Fault, Name, Reader};
@@ -22,6 +23,13 @@ pub fn cut_piece(bytes: &[u8]) -> Option<(&[u8], &[u8])>
     let (len, rest) = bytes.split_first()?;
     let len = *len as usize;
     rest.split_at_checked(len)
+}
+
+// The name of a list's labels.
+pub fn name_in(list: &[u8]) -> Result<Name, Fault>
+    ensures { (ls : List (List ℕ)) → list.now ≡ wire ls → given result ≡ name_of ls }
+{
+    Reader::new(list).name()
 }
 
 impl<'a> Fields<'a> {
@@ -107,7 +115,7 @@ impl<'a> Fields<'a> {
         let Some(list) = self.list() else {
             return None;
         };
-        Some(Reader::new(list).name())
+        Some(name_in(list))
     }
 
     // A name, or nothing at all, which the root stands for.

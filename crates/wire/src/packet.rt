@@ -3,7 +3,7 @@ ghost use Rattle.std.specs.Prelude.{◌≡◌};
 ghost use Rattle.wire.specs.Given.{Reads, written, joined, Writes, Fills};
 ghost use Rattle.wire.specs.Packets.{packet_in, packet_bytes};
 ghost use Rattle.wire.specs.Readings.{packet_of};
-ghost use Rattle.wire.specs.Laws.{PacketLaws};
+ghost use Rattle.wire.specs.Laws.{IsReadAgain, PacketLaws};
 
 use crate::buffer::{Buffer, MAX_PACKET};
 use crate::fields::Fields;
@@ -41,7 +41,8 @@ impl Packet {
     }
 
     fn put(&self, out: &mut Buffer)
-        ensures { written out.new ≡ joined (written out.old) (packet_bytes (packet_of self.now)) }
+        ensures put { written out.new ≡ joined (written out.old) (packet_bytes (packet_of self.now)) }
+        ensures read { IsReadAgain (packet_of self.now) }
     {
         match self {
             Packet::Query(query) => query.put(out),
@@ -53,7 +54,8 @@ impl Packet {
 
     // Writes it behind what is there, all of it or nothing.
     pub fn write(&self, out: &mut Vec<u8>) -> Result<(), Fault>
-        ensures { Writes out.old.items (packet_bytes (packet_of self.now)) result out.new.items }
+        ensures written { Writes out.old.items (packet_bytes (packet_of self.now)) result out.new.items }
+        ensures read { IsReadAgain (packet_of self.now) }
     {
         let mut buffer = Buffer::new();
         self.put(&mut buffer);

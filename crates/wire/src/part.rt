@@ -17,6 +17,7 @@ pub struct PartHead {
     pub moment: Moment,
     pub times: Times,
     pub part: u16,
+    // 0 tells that there is nothing newer: such a part has no sets.
     pub of: u16,
 }
 

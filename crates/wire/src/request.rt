@@ -1,8 +1,8 @@
 // A request for a zone's transfer.
-ghost use Rattle.std.specs.Prelude.{◌≡◌};
+ghost use Rattle.std.specs.Prelude.{◌≡◌, true};
 ghost use Rattle.wire.specs.Fields.{unread};
 ghost use Rattle.wire.specs.Given.{shaped, written, joined};
-ghost use Rattle.wire.specs.Packets.{request_in, request_bytes};
+ghost use Rattle.wire.specs.Packets.{request_in, request_bytes, request_keeps};
 ghost use Rattle.wire.specs.Requests.{request_of, request_given};
 ghost use Rattle.wire.specs.Shapes.{request_shape};
 
@@ -47,7 +47,8 @@ impl RequestPacket {
 
     #[tactic(auto, using(crate::proofs::Putting::joined_more), unfolding(crate::specs::Packets::request_bytes))]
     pub(crate) fn put(&self, out: &mut Buffer)
-        ensures { written out.new ≡ joined (written out.old) (request_bytes (request_of self.now)) }
+        ensures put { written out.new ≡ joined (written out.old) (request_bytes (request_of self.now)) }
+        ensures kept { request_keeps (request_of self.now) ≡ true }
     {
         out.byte(FIRST);
         out.number_8(self.id.0);

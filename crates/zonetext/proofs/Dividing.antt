@@ -1,11 +1,12 @@
 -- A line read byte by byte, and divided piece by piece.
-use Rattle.std.proofs.Common.{◌≡◌, ℕ, zero, suc, ◌+◌, ◌<◌, ◌≤◌, Bool, true, false, cond, not, ◌&&◌, eqb, leb, List, [], ◌∷◌, ◌++◌, length, get_or, take, drop, Some, None, Option, refl, sym, ap, ◌∙◌, append_assoc, arith}
+use Rattle.std.proofs.Common.{◌≡◌, ℕ, zero, suc, ◌+◌, ◌<◌, ◌≤◌, Bool, true, false, cond, not, ◌&&◌, eqb, leb, List, [], ◌∷◌, ◌++◌, length, get_or, take, drop, Some, None, Option, is_some, true≢false, refl, sym, ap, ◌∙◌, append_assoc, arith}
 use Rattle.std.specs.Option.{option_map}
 use Rattle.std.proofs.lemmas.List.{append-nil, at_drop_more, at_drop_all, take_more, take_all, length-take, length-drop, nil_from_length}
 use Rattle.std.proofs.lemmas.Bool.{cond-true, cond-false, le-leb}
 use Rattle.lines.specs.Lines.{blank, run}
 use Rattle.zonetext.specs.Division.{Piece, Word, Text, read_from, read_part, quoted_after, in_word, in_text, may_end, First, Nothing, Faulty, Has, closed, worded, begun, first_piece, on_first, pieces_upto, pieces_in, pieces_of}
 use Rattle.lines.proofs.Runs.{run_nil}
+use Rattle.memchr.specs.Find.{IsFirstByte, is_byte}
 
 -- ---- what is read
 
@@ -20,6 +21,20 @@ read_stop q b bs h = cond-true (not q && eqb b 59) [] (b ∷ read_from (quoted_a
 read_nil : (q : Bool) → read_from q [] ≡ []
 unfolding read_from
 read_nil q = refl
+
+-- without a semicolon all is read
+read_plain : (q : Bool) (bs : List ℕ) → ((k : ℕ) → k < length bs → eqb (get_or bs k 0) 59 ≡ true → ⊥) → read_from q bs ≡ bs
+read_plain q [] h = read_nil q
+read_plain q (b ∷ bs) h = read_on q b bs (no_stop (not q) (eqb b 59) (λ e. h 0 (omega arith) e)) ∙ ap (λ x. b ∷ x) (read_plain (quoted_after q b) bs (λ k l e. h (suc k) (omega arith) e))
+  where
+    no_stop : (x y : Bool) → (y ≡ true → ⊥) → (x && y) ≡ false
+    no_stop x true e = absurd (e refl)
+    no_stop true false e = refl
+    no_stop false false e = refl
+
+pub plain_line : (line : List ℕ) (r : Option ℕ) → is_some r ≡ false → IsFirstByte (is_byte 59) line r → line ≡ read_part line
+plain_line line None e h = sym (read_plain false line (λ k l t. h k (omega arith) l t))
+plain_line line (Some k) e h = absurd (true≢false e)
 
 module _ (line : List ℕ) where
   -- so far all is read

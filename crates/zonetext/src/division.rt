@@ -7,6 +7,7 @@ ghost use Rattle.zonetext.specs.Readings.{piece_of};
 ghost use Rattle.zonetext.specs.Cuts.{Cuts};
 
 use lines::{MAX_LINE, is_blank};
+use memchr::memchr;
 use names::Fault;
 use std::alloc::Global;
 
@@ -21,6 +22,10 @@ pub enum Piece<'a> {
 pub fn read_part(line: &[u8]) -> &[u8]
     ensures { result.now ≡ read_part line.now }
 {
+    // Most lines have none.
+    if memchr(b';', line).is_none() {
+        return line;
+    }
     let mut quoted = false;
     for (i, b) in line.iter().enumerate() {
         if *b == b';' && !quoted {

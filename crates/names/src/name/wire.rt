@@ -3,7 +3,7 @@ ghost use Rattle.std.specs.Prelude.{◌≡◌, ◌<◌, ◌≤◌, ◌&&◌, [],
 ghost use Rattle.std.specs.Option.{option_map};
 ghost use Rattle.names.specs.declared.fault.Fault.TheVariants.{NoMemory};
 ghost use Rattle.names.specs.Labels.{proper};
-ghost use Rattle.names.specs.Names.{labels, given};
+ghost use Rattle.names.specs.Names.{labels, given, made, one_more};
 ghost use Rattle.names.specs.Readers.{unread};
 ghost use Rattle.names.specs.Wire.{wire, cut_label, Appends, read_wire, name_read, rest_read, WireLaws};
 
@@ -18,6 +18,13 @@ fn cut_label(bytes: &[u8]) -> Option<(&[u8], &[u8])>
     let (len, rest) = bytes.split_first()?;
     let len = *len as usize;
     rest.split_at_checked(len)
+}
+
+// One label more, unless one before it was bad; whether one is bad now.
+fn push_label(name: &mut Name, is_bad: bool, label: &[u8]) -> bool
+    ensures { made result (labels name.new) ≡ one_more (made is_bad (labels name.old)) label.now }
+{
+    is_bad || name.push(label).is_err()
 }
 
 // Reads from the front of a packet; what is refused stays there to be read.
@@ -49,16 +56,19 @@ impl<'a> Reader<'a> {
             return Err(Fault::Malformed);
         };
         let mut rest = bytes;
+        let mut name = Name::root();
         // What is cut short is told before what is no name, so a bad label is no end yet.
-        let mut name = Ok(Name::root());
+        let mut is_bad = false;
         for _ in 0..*count {
             let Some((label, after)) = cut_label(rest) else {
                 return Err(Fault::Malformed);
             };
-            name = name.and_then(|upper| upper.child(label));
+            is_bad = push_label(&mut name, is_bad, label);
             rest = after;
         }
-        let name = name?;
+        if is_bad {
+            return Err(Fault::BadName);
+        }
         self.rest = rest;
         Ok(name)
     }

@@ -1,5 +1,5 @@
 // What stands in every response before what it tells.
-ghost use Rattle.std.specs.Prelude.{◌≡◌, ◌≤◌, length};
+ghost use Rattle.std.specs.Prelude.{◌≡◌, ◌^◌, ◌≤◌, true, ◌&&◌, length, nat_lt};
 ghost use Rattle.names.specs.Names.{labels};
 ghost use Rattle.wire.specs.Given.{written, joined};
 ghost use Rattle.wire.specs.Replies.{front_bytes};
@@ -17,6 +17,7 @@ impl Buffer {
     pub fn front(&mut self, id: QueryId, apex: &Name, what: What, ttl: Ttl)
         ensures put { written self.new ≡ joined (written self.old) (front_bytes id.0 (labels apex.now) (number_of what) ttl.0) }
         ensures short { length (front_bytes id.0 (labels apex.now) (number_of what) ttl.0) ≤ 271 }
+        ensures kept { (nat_lt id.0 (2 ^ 64) && nat_lt ttl.0 (2 ^ 32)) ≡ true }
     {
         self.byte(FIRST);
         self.number_8(id.0);

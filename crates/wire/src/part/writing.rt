@@ -3,6 +3,8 @@ ghost use Rattle.std.specs.Prelude.{◌≡◌, true, map};
 ghost use Rattle.records.specs.Sets.{set_of};
 ghost use Rattle.wire.specs.Given.{written, joined, Writes, Fills};
 ghost use Rattle.wire.specs.Heads.{head_of, part_of, part_with};
+ghost use Rattle.wire.specs.Laws.{IsReadAgain};
+ghost use Rattle.wire.specs.Packets.{IsPart};
 ghost use Rattle.wire.specs.Parts.{head_bytes, part_bytes, head_keeps, sets_keep};
 
 use super::{FIRST, PartHead, PartPacket};
@@ -28,8 +30,8 @@ impl PartHead {
 
     pub(crate) fn put(&self, sets: &[RecordSet], out: &mut Buffer)
         ensures put { written out.new ≡ joined (written out.old) (part_bytes (part_with self.now sets.now)) }
-        ensures head { head_keeps (head_of self.now) ≡ true }
-        ensures sets { sets_keep (map set_of sets.now) ≡ true }
+        ensures read { IsReadAgain (IsPart (part_with self.now sets.now)) }
+        ensures kept { sets_keep (map set_of sets.now) ≡ true }
     {
         out.byte(FIRST);
         self.put_fields(out);
@@ -41,8 +43,8 @@ impl PartHead {
     // Writes the part of these sets behind what is there, all of it or nothing.
     pub fn write(&self, sets: &[RecordSet], out: &mut Vec<u8>) -> Result<(), Fault>
         ensures written { Writes out.old.items (part_bytes (part_with self.now sets.now)) result out.new.items }
-        ensures head { head_keeps (head_of self.now) ≡ true }
-        ensures sets { sets_keep (map set_of sets.now) ≡ true }
+        ensures read { IsReadAgain (IsPart (part_with self.now sets.now)) }
+        ensures kept { sets_keep (map set_of sets.now) ≡ true }
     {
         let mut buffer = Buffer::new();
         self.put(sets, &mut buffer);
@@ -61,7 +63,8 @@ impl PartHead {
 
 impl PartPacket {
     pub(crate) fn put(&self, out: &mut Buffer)
-        ensures { written out.new ≡ joined (written out.old) (part_bytes (part_of self.now)) }
+        ensures put { written out.new ≡ joined (written out.old) (part_bytes (part_of self.now)) }
+        ensures read { IsReadAgain (IsPart (part_of self.now)) }
     {
         self.head.put(self.sets.as_slice(), out);
     }

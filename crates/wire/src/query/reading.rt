@@ -6,7 +6,7 @@ ghost use Rattle.wire.specs.Packets.{query_in};
 ghost use Rattle.wire.specs.Shapes.{query_shape};
 
 use super::QueryPacket;
-use crate::fields::Fields;
+use crate::fields::{Fields, name_in};
 use cache::QueryId;
 use names::Fault;
 use records::Kind;
@@ -19,18 +19,22 @@ impl QueryPacket {
         let Some(id) = fields.number_8() else {
             return Err(Fault::Malformed);
         };
-        let Some(apex) = fields.name() else {
+        let Some(apex) = fields.list() else {
             return Err(Fault::Malformed);
         };
         let Some(kind) = fields.byte() else {
             return Err(Fault::Malformed);
         };
-        let Some(name) = fields.name() else {
+        let Some(name) = fields.list() else {
             return Err(Fault::Malformed);
         };
         if !fields.is_empty() {
             return Err(Fault::Malformed);
         }
-        QueryPacket::new(QueryId(id), apex?, Kind::try_from(kind)?, name?)
+        // The names are made once all lengths are known.
+        let apex = name_in(apex)?;
+        let kind = Kind::try_from(kind)?;
+        let name = name_in(name)?;
+        QueryPacket::new(QueryId(id), apex, kind, name)
     }
 }

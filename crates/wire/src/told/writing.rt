@@ -1,7 +1,7 @@
 // Writing what is told.
 ghost use Rattle.std.specs.Prelude.{◌≡◌, true};
 ghost use Rattle.wire.specs.Given.{written, joined};
-ghost use Rattle.wire.specs.Packets.{what_of, told_bytes};
+ghost use Rattle.wire.specs.Packets.{what_of, told_bytes, told_sound};
 ghost use Rattle.wire.specs.Tellings.{told_of, held};
 ghost use Rattle.wire.specs.Whats.{number_of};
 
@@ -27,7 +27,8 @@ impl Told {
     #[tactic(auto, using(crate::proofs::Putting::joined_more))]
     pub(crate) fn put(&self, out: &mut Buffer)
         requires { held (told_of self.now) ≡ true }
-        ensures { written out.new ≡ joined (written out.old) (told_bytes (told_of self.now)) }
+        ensures put { written out.new ≡ joined (written out.old) (told_bytes (told_of self.now)) }
+        ensures kept { told_sound (told_of self.now) ≡ true }
     {
         match self {
             Told::Data(pieces) => out.pieces(pieces.as_slice()),

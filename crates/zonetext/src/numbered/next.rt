@@ -6,6 +6,7 @@ ghost use Rattle.zonetext.specs.Numbered.{lines_left, said_left, end_of, SaysNex
 use super::Lines;
 use crate::division::pieces_of;
 use crate::refusal::{Refusal, Said};
+use memchr::memchr;
 use names::Fault;
 use std::alloc::Global;
 
@@ -29,7 +30,7 @@ impl<'a> Lines<'a> {
         if self.rest.is_empty() {
             return None;
         }
-        let end = self.rest.iter().position(|b| *b == b'\n');
+        let end = memchr(b'\n', self.rest);
         let (line, behind) = self.rest.split_at(end.unwrap_or(self.rest.len()));
         self.rest = &behind[behind.len().min(1)..];
         let number = self.number;

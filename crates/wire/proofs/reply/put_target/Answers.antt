@@ -1,4 +1,4 @@
-use Rattle.std.proofs.Common.{◌≡◌, ◌≤◌, true, List, length, ap, sym, ◌∙◌, arith, rules}
+use Rattle.std.proofs.Common.{length, ap, arith, rules}
 use Rattle.names.specs.Names.{labels}
 use Rattle.names.specs.Wire.{wire}
 use Rattle.names.proofs.Laws.{labels_proper}

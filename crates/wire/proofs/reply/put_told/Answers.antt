@@ -3,11 +3,9 @@ use Rattle.names.proofs.Laws.{labels_proper}
 use Rattle.names.specs.Names.{labels}
 use Rattle.names.specs.Wire.{wire}
 use Rattle.meaning.specs.Speech.{delegation_of, target_of, said_by}
-use Rattle.meaning.specs.Transfer.{pieces}
 use Rattle.records.specs.Contents.{content_of}
 use Rattle.zones.specs.declared.reply.Reply.{Reply}
 use Rattle.zones.specs.Zones.{speaker_of}
-use Rattle.wire.specs.Given.{written, joined}
 use Rattle.wire.specs.Packets.{told_bytes}
 use Rattle.wire.specs.Parts.{content_keeps}
 use Rattle.wire.specs.Replies.{told_for}

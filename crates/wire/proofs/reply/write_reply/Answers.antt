@@ -1,7 +1,7 @@
 use Rattle.names.specs.Names.{labels}
 use Rattle.meaning.specs.Speech.{said_by}
 use Rattle.zones.specs.Zones.{speaker_of}
-use Rattle.wire.specs.Packets.{Response, response_bytes}
+use Rattle.wire.specs.Packets.{response_bytes}
 use Rattle.wire.specs.Replies.{response_for}
 use Rattle.wire.proofs.Front.{response_put, response_short, sent}
 use Rattle.wire.proofs.Putting.{all_new}

@@ -1,4 +1,4 @@
-use Rattle.std.proofs.Common.{ℕ, ◌≡◌, [], ◌&&◌, leb, true, length, map, vec_items, sym, ap, ◌∙◌, arith, length-append, rules}
+use Rattle.std.proofs.Common.{ℕ, ◌≡◌, [], leb, true, length, map, vec_items, sym, ap, ◌∙◌, arith, length-append, rules}
 use Rattle.std.proofs.lemmas.Bool.{and_parts, leb-true}
 use Rattle.names.proofs.Laws.{labels_proper}
 use Rattle.names.specs.Names.{labels}

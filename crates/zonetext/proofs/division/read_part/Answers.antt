@@ -1,9 +1,12 @@
 use Rattle.std.proofs.Common.{◌≡◌, ◌+◌, true, false, not, ◌&&◌, eqb, get_or, refl, sym, subst, arith}
 use Rattle.std.proofs.lemmas.Bool.Decides.{nat_tests}
 use Rattle.zonetext.specs.Division.{quoted_after}
-use Rattle.zonetext.proofs.Dividing.{Reading, one_read, stopped, all_read}
+use Rattle.zonetext.proofs.Dividing.{Reading, plain_line, one_read, stopped, all_read}
 use Rattle.zonetext.proofs.division.read_part.Goals as goal
 use Rattle.zonetext.proofs.division.read_part.Goals.{else-b-eq59-via-then-b-eq59+else-not-quoted, else-b-eq59-via-else-b-eq59, then-b-eq34, else-b-eq34}
+
+pub returns-then-is_none : goal.returns-then-is_none
+returns-then-is_none c = plain_line c.args.line.now c.memchr.result (c.if-is_none.ensures) c.memchr.ensures
 
 pub returns-then-not-quoted : goal.returns-then-not-quoted
 returns-then-not-quoted c =

@@ -1,6 +1,5 @@
-use Rattle.std.proofs.Common.{inl, inr, ⊎_elim, sym, ap, ◌∙◌}
+use Rattle.std.proofs.Common.{inl, inr, ⊎_elim, sym}
 use Rattle.std.proofs.lemmas.Result.{err_from_is_err_and}
-use Rattle.wire.specs.Heads.{head_given}
 use Rattle.wire.proofs.Partly.{no_head, bad_sets, bad_head, whole_part}
 use Rattle.wire.proofs.part.PartPacket.read.Goals as goal
 

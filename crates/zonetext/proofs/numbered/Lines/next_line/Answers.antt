@@ -1,9 +1,7 @@
 use Rattle.std.proofs.Common.{length, ◌∙◌, sym, arith, rules, tests}
-use Rattle.std.proofs.lemmas.Iterator.{YieldsList-from_slice}
-use Rattle.std.proofs.lemmas.Iterator.Search.{position_from_yields_List}
 use Rattle.std.proofs.lemmas.Bool.{eqb-true, eqb-false}
 use Rattle.std.proofs.lemmas.List.{take_rest}
-use Rattle.lines.proofs.Runs.{front_len}
+use Rattle.zonetext.proofs.Runs.{first_byte}
 use Rattle.zonetext.proofs.Lining.{next_is, no_lines, is_end}
 use Rattle.zonetext.proofs.numbered.Lines.next_line.Goals as goal
 
@@ -14,5 +12,4 @@ pub returns-clause-line : goal.returns-clause-line
 returns-clause-line c =
     let t = c.args.self.now.rest.now in
     let some = eqb-false (length t) 0 (sym c.if-is_empty.ensures) in
-    let found = position_from_yields_List is_end _ _ c.position-end.result c.position-end.ensures.ran (YieldsList-from_slice t cc) (λ x b q k. search (rules, tests)) in
-    next_is t c.split_at.result.0.now c.split_at.result.1.now _ c.unwrap_or.result c.min.result (omega arith) (c.unwrap_or.ensures ∙ front_len is_end t c.position-end.result found) c.split_at.ensures.front c.split_at.ensures.back c.min.ensures (take_rest c.split_at.result.1.now c.min.result)
+    next_is t c.split_at.result.0.now c.split_at.result.1.now _ c.unwrap_or.result c.min.result (omega arith) (c.unwrap_or.ensures ∙ first_byte 10 t c.memchr-end.result c.memchr-end.ensures) c.split_at.ensures.front c.split_at.ensures.back c.min.ensures (take_rest c.split_at.result.1.now c.min.result)

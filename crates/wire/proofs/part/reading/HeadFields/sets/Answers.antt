@@ -1,4 +1,4 @@
-use Rattle.std.proofs.Common.{◌≡◌, false, eqb, length, inl, ap, sym, subst, arith, rules}
+use Rattle.std.proofs.Common.{◌≡◌, false, eqb, length, inl, ap, sym, subst, rules}
 use Rattle.wire.specs.Given.{Reads, shaped}
 use Rattle.wire.specs.Heads.{fields_of}
 use Rattle.wire.specs.Parts.{all_sets}

@@ -1,0 +1,8 @@
+use Rattle.std.proofs.Common.{◌≡◌, true, ltb, rules}
+use Rattle.wire.proofs.Keeping.{query_kept}
+use Rattle.wire.proofs.query.QueryPacket.put.Goals as goal
+
+pub returns-clause-kept : goal.returns-clause-kept
+returns-clause-kept c =
+    let id : ltb c.args.self.now.id.0 18446744073709551616 ≡ true = search rules in
+    query_kept c.args.self.now id
