@@ -1,5 +1,5 @@
 -- Sets that are put into a zone one by one.
-use Rattle.std.proofs.Common.{◌≡◌, List, [], ◌∷◌, Ok, Err, sym, refl, ap, ◌∙◌}
+use Rattle.std.proofs.Common.{◌≡◌, List, [], ◌∷◌, Ok, Err, sym, ap, ◌∙◌}
 use Rattle.names.specs.declared.fault.Fault.{Fault}
 use Rattle.meaning.specs.Model.{Set, Zone}
 use Rattle.zones.specs.Valid.{added}
