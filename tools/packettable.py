@@ -8,6 +8,7 @@ usage: python3 tools/packettable.py make > crates/packet/stdin
 It looks for all faults of a packet and tells the lowest, where the code stops at the first that it meets, in a fitting order.
 Where the two differ, one of them reads the rules wrongly: so the stored output is made by this, never by the program itself.
 """
+import pathlib
 import random
 import re
 import sys
@@ -259,7 +260,17 @@ LONGEST = ".".join([LONG, LONG, LONG, "b" * 63])
 DEEPEST = ".".join("abcdefghijklmnop")
 
 
+def examples():
+    """The packets that docs/FORMATS.md shows: indented lines of digits, each with the lines that go on with it."""
+    text = (pathlib.Path(__file__).parent.parent / "docs" / "FORMATS.md").read_text()
+    for found in re.findall(r"^    (0[1-4](?: [ 0-9a-f]+)(?:\n       [ 0-9a-f]+)*)$", text, re.M):
+        yield re.sub(r"\s", "", found)
+
+
 def table():
+    yield "# the examples of docs/FORMATS.md"
+    for digits in examples():
+        yield "packet " + digits
     yield "# questions"
     for data in (
         a_query(0, ".", 1, "."), a_query(), a_query(ALL, "upperton", 31, "upperton"), a_query(1, LONGEST, 5, LONGEST),

@@ -73,7 +73,6 @@ fn print_head(rt: &HostRuntime, head: &PartHead) -> io::Result<()> {
 }
 
 // A line for each set behind the first.
-#[allow(dead_code)]
 fn print_part(rt: &HostRuntime, part: &PartPacket) -> io::Result<()> {
     print_head(rt, &part.head)?;
     for set in &part.sets {
@@ -87,5 +86,6 @@ pub fn print_packet(rt: &HostRuntime, packet: &Packet) -> io::Result<()> {
         Packet::Query(query) => print_query(rt, query),
         Packet::Response(response) => print_response(rt, response),
         Packet::Request(request) => print_request(rt, request),
+        Packet::Part(part) => print_part(rt, part),
     }
 }

@@ -4,3 +4,12 @@ mod Together
 mod Marks
 mod Putting
 mod Taking
+mod Rows
+mod Cutting
+mod Numbering
+mod Parting
+mod Orders
+mod Inserting
+mod Present
+mod Rejoining
+mod Brought

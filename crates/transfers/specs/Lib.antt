@@ -2,3 +2,4 @@ pub mod Splitting
 pub mod Joining
 pub mod Joinings
 pub mod TransferLaws
+pub mod Sent

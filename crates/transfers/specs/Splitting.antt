@@ -1,9 +1,10 @@
 -- How a zone is cut into the parts of a transfer. Assumes nothing.
-use Rattle.std.specs.Prelude.{◌≡◌, ℕ, zero, suc, ◌+◌, ◌≤◌, ◌<◌, Bool, true, cond, ◌&&◌, List, [], ◌∷◌, ◌++◌, length, nat_le}
+use Rattle.std.specs.Prelude.{◌≡◌, ℕ, ◌+◌, ◌≤◌, ◌<◌, true, cond, List, [], ◌∷◌, ◌++◌, length, nat_le}
+use mathlib.Core.List.{Memᴰ}
 use Rattle.meaning.specs.Model.{Set, Zone}
-use Rattle.meaning.specs.Transfer.{all_transferred}
+use Rattle.meaning.specs.Transfer.{transferred, all_transferred}
 use Rattle.wire.specs.Parts.{Part, head_keeps, sets_keep, part_keeps}
-use Rattle.wire.specs.Shapes.{Times, Head}
+use Rattle.wire.specs.Shapes.{Times}
 
 -- a packet has 1,200 bytes, of which 41 stand before the sets
 abbrev pub room : ℕ
@@ -21,6 +22,10 @@ rows_behind row (s ∷ ss) =
 
 abbrev pub rows : List Set → List (List Set)
 rows ss = rows_behind [] ss
+
+-- each set alone fits
+abbrev pub EachFits : List Set → Type 0
+EachFits ss = (s : Set) → Memᴰ s ss → length (transferred s) ≤ room
 
 -- ---- parts: the rows behind their heads, counted from 1
 
@@ -46,18 +51,16 @@ unfoldable pub all_sets : List Part → List Set
 all_sets [] = []
 all_sets (p ∷ ps) = p.sets ++ all_sets ps
 
-abbrev pub all_keep : List Part → Bool
-all_keep [] = true
-all_keep (p ∷ ps) = part_keeps p && all_keep ps
-
 pub record SplitLaws : Type 0 where
   -- the sets of all parts, one behind the other, are the zone's
   pub whole : (z : Zone) (id moment : ℕ) → all_sets (split z id moment) ≡ z.sets
   -- each part keeps the rules of packets: none is too long
-  pub fits : (z : Zone) (id moment : ℕ) → head_keeps (part_from z id moment 1 1 []).head ≡ true → sets_keep z.sets ≡ true → length z.sets ≤ 4096 → all_keep (split z id moment) ≡ true
+  pub fits : (z : Zone) (id moment : ℕ) → head_keeps (part_from z id moment 1 1 []).head ≡ true → sets_keep z.sets ≡ true → length z.sets ≤ 4096 → (p : Part) → Memᴰ p (split z id moment) → part_keeps p ≡ true
   -- each is as full as can be: with the first set of the next one it would be too long
   pub full : (z : Zone) (front back : List (List Set)) (a b : List Set) (s : Set) → rows z.sets ≡ front ++ a ∷ (s ∷ b) ∷ back → room < length (all_transferred (a ++ s ∷ []))
-  -- and where there are several, none is without sets
-  pub several : (z : Zone) (front back : List (List Set)) (row : List Set) → sets_keep z.sets ≡ true → rows z.sets ≡ front ++ row ∷ back → 1 < length (rows z.sets) → 1 ≤ length row
+  -- sets that keep the rules fit, and so do those of every zone that is split
+  pub alone : (ss : List Set) → sets_keep ss ≡ true → EachFits ss
+  -- then, where there are several rows, none is without sets
+  pub several : (z : Zone) (front back : List (List Set)) (row : List Set) → EachFits z.sets → rows z.sets ≡ front ++ row ∷ back → 1 < length (rows z.sets) → 1 ≤ length row
   -- there is one at least, and no more than sets, unless there is none
-  pub few : (z : Zone) → sets_keep z.sets ≡ true → (1 ≤ length (rows z.sets)) × (1 ≤ length z.sets → length (rows z.sets) ≤ length z.sets)
+  pub few : (z : Zone) → EachFits z.sets → (1 ≤ length (rows z.sets)) × (1 ≤ length z.sets → length (rows z.sets) ≤ length z.sets)

@@ -4,6 +4,7 @@ mod Putting
 mod Copying
 mod Telling
 mod Front
+mod Upper
 mod Texting
 mod Sizes
 mod Backs

@@ -4,7 +4,7 @@ ghost use Rattle.std.specs.Option.{option_map};
 ghost use Rattle.std.specs.Int.{w16, w32, w64};
 ghost use Rattle.wire.specs.Cuts.{cut_byte, cut_number, cut_list, cut_list_if, cut_what};
 ghost use Rattle.wire.specs.Fields.{unread, Takes, TakesNumber, IsList, IsName, TakesWhat};
-ghost use Rattle.names.specs.Names.{given, name_of};
+ghost use Rattle.names.specs.Names.{labels, given, name_of};
 ghost use Rattle.names.specs.Wire.{wire, cut_label};
 
 use crate::what::What;
@@ -26,10 +26,27 @@ pub fn cut_piece(bytes: &[u8]) -> Option<(&[u8], &[u8])>
 }
 
 // The name of a list's labels.
+#[inline(always)]
 pub fn name_in(list: &[u8]) -> Result<Name, Fault>
     ensures { (ls : List (List ℕ)) → list.now ≡ wire ls → given result ≡ name_of ls }
 {
     Reader::new(list).name()
+}
+
+// The same, where the labels mostly are the first of those of another name: they are then not read once more.
+#[inline(always)]
+pub fn upper_name_in(list: &[u8], lower_list: &[u8], lower: &Name) -> Result<Name, Fault>
+    ensures { (ls : List (List ℕ)) → list.now ≡ wire ls → lower_list.now ≡ wire (labels lower.now) → given result ≡ name_of ls }
+{
+    let ([count, front @ ..], [_, all @ ..]) = (list, lower_list) else {
+        return name_in(list);
+    };
+    let count = *count as usize;
+    if count <= lower.label_count() && all.starts_with(front) {
+        Ok(lower.ancestor(count))
+    } else {
+        name_in(list)
+    }
 }
 
 impl<'a> Fields<'a> {

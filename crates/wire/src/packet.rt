@@ -24,6 +24,7 @@ pub enum Packet {
 
 impl Packet {
     // The packet that these bytes are, or their lowest fault.
+    #[inline(always)]
     pub fn read(heap: Global, bytes: &[u8]) -> Result<Packet, Fault>
         ensures { Reads packet_of (packet_in bytes.now) result }
     {

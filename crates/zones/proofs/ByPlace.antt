@@ -82,14 +82,18 @@ module _ (ss : List Set) (o : sorted ss ≡ true) (n : List (List ℕ)) (k : ℕ
       go x (none h) = refl
 
 -- where the last set stands before a key, all do
+pub all_before : (ss : List Set) (n : List (List ℕ)) (k : ℕ) → sorted ss ≡ true → (d : Set) → 0 < length ss → is_before n k (get_or ss (length ss - 1) d) ≡ true → length ss ≡ place n k ss
+all_before ss n k o d l h =
+    let r = right_half (is_before n k) ss (sets_fall n k ss o) d (length ss - 1) (omega arith) h in
+    let p = place_leading n k ss in
+    let w = place_within n k ss in
+    omega arith
+
 pub behind_last : {X : Type 0} (f : X → Set) (xs : List X) (n : List (List ℕ)) (k : ℕ) → sorted (map f xs) ≡ true → (x : X) → 0 < length xs → x ≡ get_or xs (length xs - 1) x → is_before n k (f x) ≡ true → length xs ≡ place n k (map f xs)
 behind_last f xs n k o x l e h =
     let m = length-map xs f in
-    let last : get_or (map f xs) (length xs - 1) (f x) ≡ f x = read_at f xs (length xs - 1) x (omega arith) e in
-    let r = right_half (is_before n k) (map f xs) (sets_fall n k (map f xs) o) (f x) (length xs - 1) (omega arith) (ap (is_before n k) last ∙ h) in
-    let p = place_leading n k (map f xs) in
-    let w = place_within n k (map f xs) in
-    omega arith
+    let last : get_or (map f xs) (length (map f xs) - 1) (f x) ≡ f x = ap (λ i. get_or (map f xs) (i - 1) (f x)) m ∙ read_at f xs (length xs - 1) x (omega arith) e in
+    sym m ∙ all_before (map f xs) n k o (f x) (omega arith) (ap (is_before n k) last ∙ h)
 
 -- ---- the order of names, from that of sets
 

@@ -4,7 +4,7 @@ use mathlib.Core.List.Memᴰ
 use mathlib.Core.List.{Memᴰ}
 use lib.ListN.{length-map}
 use Rattle.std.proofs.Math.Bool.{or-false}
-use Rattle.std.proofs.lemmas.Bool.{and_parts, or_left, or_right, or_parts, cases_lt, cases_Bool}
+use Rattle.std.proofs.lemmas.Bool.{and_parts, or_left, or_right, cases_lt, cases_Bool}
 use Rattle.std.specs.List.{ItemBy}
 use Rattle.std.specs.Option.{MatchOption}
 use Rattle.names.specs.Order.{within, NotAfter}
@@ -12,7 +12,7 @@ use Rattle.names.proofs.Order.{order_laws}
 use Rattle.names.proofs.Within.{within_itself}
 use Rattle.meaning.specs.Model.{aliases, AliasOf, Set}
 use Rattle.meaning.specs.Says.{same}
-use Rattle.meaning.proofs.Rules.{same_so, so_same}
+use Rattle.meaning.proofs.Rules.{same_so}
 use Rattle.zones.specs.Sorted.{sorted, place, set_at}
 use Rattle.zones.specs.Valid.{clash, clashes, no_clash}
 use Rattle.zones.proofs.Places.{mem_at, place_within}

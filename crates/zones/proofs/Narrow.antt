@@ -1,5 +1,5 @@
 -- Where sets can stand at a name, by the fronts alone, and the place of a name and kind among them.
-use Rattle.std.proofs.Common.{◌≡◌, ℕ, ◌+◌, ◌-◌, ◌<◌, ◌≤◌, Bool, true, false, eqb, ltb, ◌⊎◌, List, [], ◌∷◌, map, length, get_or, drop, Ordering, Less, Equal, Greater, sym, refl, ap, ◌∙◌, inl, inr, min, ⊎_elim, true≢false, length-drop, arith}
+use Rattle.std.proofs.Common.{◌≡◌, ℕ, ◌+◌, ◌-◌, ◌<◌, ◌≤◌, Bool, true, false, eqb, ltb, ◌⊎◌, List, [], ◌∷◌, map, length, get_or, drop, Ordering, Less, Equal, Greater, sym, refl, ap, ◌∙◌, subst, inl, inr, min, ⊎_elim, true≢false, length-drop, arith}
 use lib.ListN.{length-map}
 use Rattle.std.specs.List.Sorted.{IsPartitionPoint, IsPartitionedBy, IsNonDecreasingBy}
 use Rattle.std.specs.List.{slice_range}
@@ -18,7 +18,7 @@ use Rattle.records.specs.declared.set.RecordSet.{RecordSet}
 use Rattle.records.specs.Sets.{set_of}
 use Rattle.zones.specs.Sorted.{is_before, is_before_below, is_ahead_below, sorted, place, leading, all_within, fronts_of, Narrowed}
 use Rattle.zones.proofs.Places.{mem_at, leading_is, place_leading, sets_fall, fronts_many}
-use Rattle.zones.proofs.ByPlace.{names_rise, least_kind}
+use Rattle.zones.proofs.ByPlace.{names_rise, least_kind, all_before}
 use Rattle.zones.proofs.Topmost.{each_so}
 
 -- ---- two names, by which comes first
@@ -63,6 +63,14 @@ module _ (apex n : List (List ℕ)) (ss : List Set) (inside : all_within apex ss
     asked = λ l. absurd (omega arith);
   }
 
+less_before : (n : List (List ℕ)) (k : ℕ) (s : Set) → is_lt (order s.name n) ≡ true → is_before n k s ≡ true
+less_before n k s h = go (order s.name n) refl h
+  where
+    go : (r : Ordering) → order s.name n ≡ r → is_lt r ≡ true → is_before n k s ≡ true
+    go Less e f = ap (λ x. is_lt (ordering_then x (nat_cmp s.kind k))) e
+    go Equal e f = absurd (true≢false (sym f))
+    go Greater e f = absurd (true≢false (sym f))
+
 -- ---- within the apex the fronts decide where they differ
 
 -- the set that the code has at an index
@@ -106,6 +114,20 @@ module _ (apex : List (List ℕ)) (xs : List RecordSet) (fs : List ℕ) (o : sor
       let a = at_of xs i (omega arith) in
       let b = at_of xs j (omega arith) in
       by_names i j d le (omega arith) (omega arith) a.0 b.0 a.1 b.1
+
+  -- behind the last one, where its front is lower
+  pub behind_front : (n : Name) (k : ℕ) → within apex (labels n) ≡ true → (sought : ℕ) → sought ≡ front_below (length apex) (labels n) → 0 < length fs → get_or fs (length fs - 1) 0 < sought → length xs ≡ place (labels n) k (map set_of xs)
+  behind_front n k w sought h l lt = go (at_of xs (length xs - 1) (let c = many in omega arith))
+    where
+      go : (x : RecordSet) × Is (length xs - 1) x → length xs ≡ place (labels n) k (map set_of xs)
+      go a =
+          let c = many in
+          let len = length-map xs set_of in
+          let f = front_there (length xs - 1) 0 (omega arith) a.0 a.1 in
+          let g : get_or fs (length xs - 1) 0 < sought = subst (λ i. get_or fs (i - 1) 0 < sought) c lt in
+          let before = less_before (labels n) k (set_of a.0) (ap is_lt (front_order apex a.0.name n (in_apex (length xs - 1) (omega arith) a.0 a.1) w (omega arith))) in
+          sym len
+          ∙ all_before (map set_of xs) (labels n) k o (set_of a.0) (omega arith) (ap (λ i. is_before (labels n) k (get_or (map set_of xs) (i - 1) (set_of a.0))) len ∙ ap (is_before (labels n) k) (a.1 (set_of a.0)) ∙ before)
 
   module _ (n : Name) (w : within apex (labels n) ≡ true) (sought : ℕ) (h : sought ≡ front_below (length apex) (labels n)) (low : ℕ) (below : low ≤ length fs) (p : IsPartitionPoint (λ y. ltb y sought ≡ true) (λ y. ltb y sought ≡ false) fs low) where
     from_low : (i d : ℕ) → low ≤ i → i < length fs → sought ≤ get_or fs i d
@@ -201,14 +223,6 @@ ahead_agrees apex n d e s v w = (λ i. is_lt (order (drop (e i) s.name) (drop (e
     go Less = refl
     go Equal = sym (least_kind s.kind (nat_cmp s.kind 0) (ranks s.kind 0))
     go Greater = refl
-
-less_before : (n : List (List ℕ)) (k : ℕ) (s : Set) → is_lt (order s.name n) ≡ true → is_before n k s ≡ true
-less_before n k s h = go (order s.name n) refl h
-  where
-    go : (r : Ordering) → order s.name n ≡ r → is_lt r ≡ true → is_before n k s ≡ true
-    go Less e f = ap (λ x. is_lt (ordering_then x (nat_cmp s.kind k))) e
-    go Equal e f = absurd (true≢false (sym f))
-    go Greater e f = absurd (true≢false (sym f))
 
 greater_behind : (n : List (List ℕ)) (k : ℕ) (s : Set) → is_lt (order n s.name) ≡ true → is_before n k s ≡ false
 greater_behind n k s h = go (order n s.name) refl h

@@ -1,5 +1,5 @@
 -- The lines that are still to be read, and what reading the next one says.
-use Rattle.std.specs.Prelude.{◌≡◌, ℕ, ◌+◌, ◌<◌, ◌⊎◌, List, [], ◌∷◌, map, length, vec_items, Some, None, Ok, Err, Option, Result}
+use Rattle.std.specs.Prelude.{◌≡◌, ℕ, ◌+◌, ◌<◌, Bool, true, false, ◌⊎◌, List, [], ◌∷◌, map, length, vec_items, Some, None, Ok, Err, Result}
 use Rattle.names.specs.declared.fault.Fault.TheVariants.{NoMemory, Malformed}
 use Rattle.zonetext.specs.declared.numbered.Lines.{Lines}
 use Rattle.zonetext.specs.declared.refusal.Said.{Said}
@@ -29,14 +29,14 @@ abbrev pub Undivided : List Line → declared.Refusal → List Line → Type 0
 Undivided before r after = (r.fault ≡ NoMemory) ⊎ ((r.fault ≡ Malformed) × (before ≡ record { number = r.line; pieces = None } ∷ after))
 
 -- the next line that says something, or none, at the end
-abbrev pub SaysNext : List Line → Result (Option Said) declared.Refusal → List Line → ℕ → ℕ → Type 0
-SaysNext before (Ok (Some s)) after end number = before ≡ line_of s ∷ after
-SaysNext before (Ok None) after end number = (before ≡ []) × (number ≡ end)
-SaysNext before (Err r) after end number = Undivided before r after
+abbrev pub SaysNext : List Line → Result Bool declared.Refusal → Said → List Line → ℕ → ℕ → Type 0
+SaysNext before (Ok true) s after end number = before ≡ line_of s ∷ after
+SaysNext before (Ok false) s after end number = (before ≡ []) × (number ≡ end)
+SaysNext before (Err r) s after end number = Undivided before r after
 
-abbrev pub Shorter : Result (Option Said) declared.Refusal → Lines → Lines → Type 0
-Shorter (Ok (Some s)) x y = length y.rest.now < length x.rest.now
-Shorter (Ok None) x y = Unit {0}
+abbrev pub Shorter : Result Bool declared.Refusal → Lines → Lines → Type 0
+Shorter (Ok true) x y = length y.rest.now < length x.rest.now
+Shorter (Ok false) x y = Unit {0}
 Shorter (Err r) x y = Unit {0}
 
 -- the next line that says something; where there is none, the line at the end is at fault

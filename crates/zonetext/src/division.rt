@@ -9,7 +9,6 @@ ghost use Rattle.zonetext.specs.Cuts.{Cuts};
 use lines::{MAX_LINE, is_blank};
 use memchr::memchr;
 use names::Fault;
-use std::alloc::Global;
 
 #[derive(Clone, Copy)]
 pub enum Piece<'a> {
@@ -117,18 +116,18 @@ fn first_piece(rest: &[u8]) -> Result<Option<Cut<'_>>, Fault>
     }
 }
 
-// The pieces of a line, of which at most so many bytes are read.
-pub fn pieces_of<'a>(heap: Global, line: &'a [u8]) -> Result<Vec<Piece<'a>>, Fault>
-    ensures { MatchResult result (λ v. pieces_of line.now ≡ Some (map piece_of v.items)) (λ f. ((pieces_of line.now ≡ None) × (f ≡ Malformed)) ⊎ (f ≡ NoMemory)) }
+// The pieces of a line, of which at most so many bytes are read, in the place of those of another.
+pub fn divide<'a>(line: &'a [u8], pieces: &mut Vec<Piece<'a>>) -> Result<(), Fault>
+    ensures { MatchResult result (λ _. pieces_of line.now ≡ Some (map piece_of pieces.new.items)) (λ f. ((pieces_of line.now ≡ None) × (f ≡ Malformed)) ⊎ (f ≡ NoMemory)) }
 {
     let mut rest = read_part(line);
     if rest.len() > MAX_LINE {
         return Err(Fault::Malformed);
     }
-    let mut pieces = Vec::with_capacity(heap, 8)?;
+    pieces.clear();
     while let Some((piece, after)) = first_piece(rest)? {
         pieces.push(piece)?;
         rest = after;
     }
-    Ok(pieces)
+    Ok(())
 }

@@ -168,7 +168,7 @@ fn has_bad_name(apex: &Name, pieces: &[Piece]) -> bool
 }
 
 // One name; a word that is no name is told before a wrong count.
-fn alias(apex: &Name, pieces: &[Piece]) -> Result<Name, Fault>
+fn target(apex: &Name, pieces: &[Piece]) -> Result<Name, Fault>
     ensures { alias_to (given result) ≡ alias_of (labels apex.now) (map piece_of pieces.now) }
 {
     if let [Piece::Word(word)] = pieces {
@@ -178,6 +178,13 @@ fn alias(apex: &Name, pieces: &[Piece]) -> Result<Name, Fault>
         return Err(Fault::BadName);
     }
     Err(Fault::BadData)
+}
+
+fn alias(heap: Global, apex: &Name, pieces: &[Piece]) -> Result<Data, Fault>
+    ensures { Reads content_of (alias_of (labels apex.now) (map piece_of pieces.now)) result }
+{
+    let to = target(apex, pieces)?;
+    Ok(Data::Alias(Box::new(heap, to)?))
 }
 
 // Data in the form of their kind.
@@ -192,7 +199,7 @@ fn data(heap: Global, kind: Kind, apex: &Name, pieces: &[Piece]) -> Result<Data,
         let servers = addresses(heap, pieces)?;
         Ok(Data::Delegation(Delegation { servers }))
     } else if kind.is_alias() {
-        Ok(Data::Alias(Box::new(heap, alias(apex, pieces)?)?))
+        alias(heap, apex, pieces)
     } else {
         Ok(Data::Others(others(heap, pieces)?))
     }
@@ -209,7 +216,10 @@ pub fn record_set(heap: Global, apex: &Name, fields: &[Piece]) -> Result<RecordS
     let Some(ttl) = seconds(*time) else {
         return Err(Fault::Malformed);
     };
-    let owner = name(apex, *owner)?;
+    let Piece::Word(owner) = *owner else {
+        return Err(Fault::BadName);
+    };
+    let owner = Name::read_below(apex, owner)?;
     let Some(kind) = kind(*number) else {
         return Err(Fault::BadName);
     };

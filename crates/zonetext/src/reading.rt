@@ -67,7 +67,9 @@ fn add_set(heap: Global, zone: &mut Zone, line: &Said) -> Result<(), Fault>
 fn add_sets(heap: Global, zone: &mut Zone, lines: &mut Lines) -> Result<(), Refusal>
     ensures { AddsAll (zone_of zone.old) (said_left lines.old) result (zone_of zone.new) }
 {
-    while let Some(line) = lines.next_said(heap)? {
+    // Its pieces have room from the line before.
+    let mut line = Said::new(heap);
+    while lines.read_said(&mut line)? {
         Refusal::at(line.number, add_set(heap, zone, &line))?;
     }
     Ok(())

@@ -3,11 +3,22 @@ ghost use Rattle.std.specs.Prelude.{◌≡◌, Ok, Err, MatchResult};
 
 use crate::division::Piece;
 use names::Fault;
+use std::alloc::Global;
 
 #[derive(Drop)]
 pub struct Said<'a> {
     pub number: usize,
     pub pieces: Vec<Piece<'a>>,
+}
+
+impl<'a> Said<'a> {
+    // Of no line yet.
+    pub fn new(heap: Global) -> Said<'a> {
+        Said {
+            number: 0,
+            pieces: Vec::new(heap),
+        }
+    }
 }
 
 // The first faulty line of a text, and its lowest fault.

@@ -11,7 +11,6 @@ use crate::types::{Kind, Ttl};
 use names::{Fault, Name};
 
 impl RecordSet {
-    #[inline]
     pub fn new(name: Name, kind: Kind, ttl: Ttl, content: Data) -> Result<RecordSet, Fault>
         ensures { set_given result ≡ set_from (labels name) kind.number ttl.0 (content_of content) }
     {

@@ -10,6 +10,7 @@ use names::{Fault, Name};
 use records::Kind;
 
 impl QueryPacket {
+    #[inline(always)]
     pub fn new(id: QueryId, apex: Name, kind: Kind, name: Name) -> Result<QueryPacket, Fault>
         ensures { query_given result ≡ query_from id.0 (labels apex) kind.number (labels name) }
     {

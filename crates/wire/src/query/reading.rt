@@ -6,13 +6,14 @@ ghost use Rattle.wire.specs.Packets.{query_in};
 ghost use Rattle.wire.specs.Shapes.{query_shape};
 
 use super::QueryPacket;
-use crate::fields::{Fields, name_in};
+use crate::fields::{Fields, name_in, upper_name_in};
 use cache::QueryId;
 use names::Fault;
 use records::Kind;
 
 impl QueryPacket {
     // What stands behind the first byte, to its end.
+    #[inline(always)]
     pub(crate) fn read(fields: &mut Fields) -> Result<QueryPacket, Fault>
         ensures { query_given result ≡ shaped query_in (query_shape (unread fields.old)) }
     {
@@ -32,9 +33,8 @@ impl QueryPacket {
             return Err(Fault::Malformed);
         }
         // The names are made once all lengths are known.
-        let apex = name_in(apex)?;
-        let kind = Kind::try_from(kind)?;
-        let name = name_in(name)?;
-        QueryPacket::new(QueryId(id), apex, kind, name)
+        let lower = name_in(name)?;
+        let apex = upper_name_in(apex, name, &lower)?;
+        QueryPacket::new(QueryId(id), apex, Kind::try_from(kind)?, lower)
     }
 }

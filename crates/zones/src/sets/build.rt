@@ -1,6 +1,7 @@
 // Making sorted sets, and reading them as they stand.
 ghost use Rattle.std.specs.Prelude.{◌≡◌, ◌+◌, ◌<◌, ◌≤◌, true, false, [], map, length, is_some, MatchResult};
 ghost use Rattle.names.specs.declared.fault.Fault.TheVariants.{NoMemory};
+ghost use Rattle.names.specs.Fronts.{front_below};
 ghost use Rattle.names.specs.Names.{labels};
 ghost use Rattle.names.specs.Order.{within};
 ghost use Rattle.meaning.specs.Says.{is_exactly, find};
@@ -10,6 +11,7 @@ ghost use Rattle.zones.specs.Valid.{insert_set};
 ghost use Rattle.zones.specs.Zones.{sets_of, free_sets};
 
 use super::SortedSets;
+use super::placing::Place;
 use names::{Fault, Name};
 use records::RecordSet;
 use std::alloc::Global;
@@ -57,23 +59,23 @@ impl SortedSets {
     }
 
     // One set more, at its place.
-    pub fn insert(&mut self, at: usize, set: RecordSet)
+    pub fn insert(&mut self, to: Place, set: RecordSet)
         requires inside { within (labels self.old.apex) (set_of set).name ≡ true }
         requires fresh { is_some (find (is_exactly (set_of set).name (set_of set).kind) (sets_of self.old)) ≡ false }
-        requires place { at ≡ place (set_of set).name (set_of set).kind (sets_of self.old) }
+        requires at { to.at ≡ place (set_of set).name (set_of set).kind (sets_of self.old) }
+        requires front { to.front ≡ front_below (length (labels self.old.apex)) (set_of set).name }
         requires room { 1 ≤ free_sets self.old }
         ensures apex { labels self.new.apex ≡ labels self.old.apex }
         ensures sets { sets_of self.new ≡ insert_set (set_of set) (sets_of self.old) }
         ensures room { free_sets self.old ≤ free_sets self.new + 1 }
     {
-        let front = set.name().front_below(self.apex.label_count());
         // Behind all, none has to move.
-        if at == self.sets.len() {
+        if to.at == self.sets.len() {
             self.sets.push_reserved(set);
-            self.fronts.push_reserved(front);
+            self.fronts.push_reserved(to.front);
             return;
         }
-        let _ = self.sets.insert(at, set);
-        let _ = self.fronts.insert(at, front);
+        let _ = self.sets.insert(to.at, set);
+        let _ = self.fronts.insert(to.at, to.front);
     }
 }

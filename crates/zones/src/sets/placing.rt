@@ -1,5 +1,6 @@
 // Where a set that is to come has its place, and what it meets there.
-ghost use Rattle.std.specs.Prelude.{◌≡◌, ◌≤◌, true, length};
+ghost use Rattle.std.specs.Prelude.{◌≡◌, true, length};
+ghost use Rattle.names.specs.Fronts.{front_below};
 ghost use Rattle.names.specs.Names.{labels};
 ghost use Rattle.names.specs.Order.{within};
 ghost use Rattle.records.specs.Sets.{set_of};
@@ -11,6 +12,13 @@ use super::SortedSets;
 use super::search::is_before;
 use records::RecordSet;
 
+// How many sets stand before one that is to come, and the front of its name.
+#[derive(Clone, Copy)]
+pub struct Place {
+    pub at: usize,
+    pub front: u64,
+}
+
 // An alias stands alone at its name, whichever of the two came first.
 fn clash(set: &RecordSet, other: &RecordSet) -> bool
     ensures { result ≡ clash (set_of set.now) (set_of other.now) }
@@ -19,20 +27,36 @@ fn clash(set: &RecordSet, other: &RecordSet) -> bool
 }
 
 impl SortedSets {
-    // How many sets stand before one that is to come. Behind the last one they all do, so sets that come in their order need no search.
-    pub fn place_of(&self, set: &RecordSet) -> usize
-        requires { within (labels self.now.apex) (set_of set.now).name ≡ true }
-        ensures value { result ≡ place (set_of set.now).name (set_of set.now).kind (sets_of self.now) }
-        ensures bound { result ≤ length (sets_of self.now) }
+    // How many sets stand before one that is to come, of whose name the front is known. Sets mostly come in their order, and mostly
+    // the fronts tell; only where they don't is there a search.
+    fn count_before(&self, front: u64, set: &RecordSet) -> usize
+        requires inside { within (labels self.now.apex) (set_of set.now).name ≡ true }
+        requires front { front ≡ front_below (length (labels self.now.apex)) (set_of set.now).name }
+        ensures { result ≡ place (set_of set.now).name (set_of set.now).kind (sets_of self.now) }
     {
-        let (name, kind) = (set.name(), set.kind());
+        let Some(last_front) = self.fronts.last() else {
+            return 0;
+        };
+        if *last_front < front {
+            return self.sets.len();
+        }
         let Some(last) = self.sets.last() else {
             return 0;
         };
-        if is_before(last, name, kind, self.apex.label_count()) {
+        if is_before(last, set.name(), set.kind(), self.apex.label_count()) {
             return self.sets.len();
         }
-        self.position(name, kind)
+        self.position(set.name(), set.kind())
+    }
+
+    pub fn place_of(&self, set: &RecordSet) -> Place
+        requires { within (labels self.now.apex) (set_of set.now).name ≡ true }
+        ensures at { result.at ≡ place (set_of set.now).name (set_of set.now).kind (sets_of self.now) }
+        ensures front { result.front ≡ front_below (length (labels self.now.apex)) (set_of set.now).name }
+    {
+        let front = set.name().front_below(self.apex.label_count());
+        let at = self.count_before(front, set);
+        Place { at, front }
     }
 
     // Whether a set clashes with the one at an index.

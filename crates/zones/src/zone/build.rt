@@ -1,6 +1,7 @@
 // Making a zone, set by set, with every limit.
 ghost use Rattle.std.specs.Prelude.{◌≡◌, ◌+◌, ◌≤◌, [], length, is_some, Ok, Err, IfErr, MatchResult, nat_le};
 ghost use Rattle.names.specs.declared.fault.Fault.TheVariants.{NoMemory};
+ghost use Rattle.names.specs.Fronts.{front_below};
 ghost use Rattle.names.specs.Names.{labels};
 ghost use Rattle.meaning.specs.Says.{same, is_exactly, find};
 ghost use Rattle.records.specs.Sets.{set_of};
@@ -11,6 +12,7 @@ ghost use Rattle.zones.specs.Zones.{zone_of, zone_from, free, Inserts};
 use super::{MAX_SETS, Times, Zone};
 use crate::cuts::Cuts;
 use crate::sets::SortedSets;
+use crate::sets::placing::Place;
 use names::{Fault, Name};
 use records::{RecordSet, Serial};
 use std::alloc::Global;
@@ -56,26 +58,26 @@ impl Zone {
     }
 
     // The place of a set that may come into the zone, or its lowest fault.
-    fn place_of(&self, set: &RecordSet) -> Result<usize, Fault>
-        ensures { MatchResult result (λ at. (added (zone_of self.now).apex (zone_of self.now).sets (set_of set.now) ≡ Ok (insert_set (set_of set.now) (zone_of self.now).sets)) × (at ≡ place (set_of set.now).name (set_of set.now).kind (zone_of self.now).sets)) (λ f. added (zone_of self.now).apex (zone_of self.now).sets (set_of set.now) ≡ Err f) }
+    fn place_of(&self, set: &RecordSet) -> Result<Place, Fault>
+        ensures { MatchResult result (λ p. (added (zone_of self.now).apex (zone_of self.now).sets (set_of set.now) ≡ Ok (insert_set (set_of set.now) (zone_of self.now).sets)) × (p.at ≡ place (set_of set.now).name (set_of set.now).kind (zone_of self.now).sets) × (p.front ≡ front_below (length (zone_of self.now).apex) (set_of set.now).name)) (λ f. added (zone_of self.now).apex (zone_of self.now).sets (set_of set.now) ≡ Err f) }
     {
         if !set.name().is_within(self.sets.apex()) {
             return Err(Fault::Misplaced);
         }
-        let at = self.sets.place_of(set);
-        if self.has_equal(at, set) {
+        let place = self.sets.place_of(set);
+        if self.has_equal(place.at, set) {
             return Err(Fault::Misplaced);
         }
         if set.kind().is_delegation() && self.is_at_apex(set) {
             return Err(Fault::Conflict);
         }
-        if self.has_clash(at, set) {
+        if self.has_clash(place.at, set) {
             return Err(Fault::Conflict);
         }
         if self.is_full() {
             return Err(Fault::TooMuch);
         }
-        Ok(at)
+        Ok(place)
     }
 
     // Why a set may not come into the zone, by its lowest fault.
@@ -102,13 +104,13 @@ impl Zone {
         ensures room { free self.old ≤ free self.new + 1 }
         ensures succeeds { 1 ≤ free self.old → IfErr result (λ f. added (zone_of self.old).apex (zone_of self.old).sets (set_of set) ≡ Err f) }
     {
-        let at = self.place_of(&set)?;
+        let place = self.place_of(&set)?;
         // Room first, so that nothing can fail once the set is in.
         self.sets.reserve(1)?;
         self.cuts.reserve(1)?;
         self.cuts.add_set(&set);
         self.carried += set.transfer_len();
-        self.sets.insert(at, set);
+        self.sets.insert(place, set);
         Ok(())
     }
 }

@@ -4,7 +4,7 @@ ghost use Rattle.zonetext.specs.Texts.{lines_of};
 ghost use Rattle.zonetext.specs.Numbered.{lines_left, said_left, end_of, SaysNext, Shorter, Requires};
 
 use super::Lines;
-use crate::division::pieces_of;
+use crate::division::divide;
 use crate::refusal::{Refusal, Said};
 use memchr::memchr;
 use names::Fault;
@@ -38,19 +38,21 @@ impl<'a> Lines<'a> {
         Some((number, line))
     }
 
-    // The next line that says something, divided. Blank lines are passed over.
-    pub fn next_said(&mut self, heap: Global) -> Result<Option<Said<'a>>, Refusal>
-        ensures said { SaysNext (said_left self.old) result (said_left self.new) (end_of self.new) self.new.number }
+    // Reads the next line that says something, divided, in the place of another; false where there is none. Blank lines are passed
+    // over.
+    pub fn read_said(&mut self, said: &mut Said<'a>) -> Result<bool, Refusal>
+        ensures said { SaysNext (said_left self.old) result said.new (said_left self.new) (end_of self.new) self.new.number }
         ensures end { end_of self.new ≡ end_of self.old }
         ensures shorter { Shorter result self.old self.new }
     {
         while let Some((number, line)) = self.next_line() {
-            let pieces = Refusal::at(number, pieces_of(heap, line))?;
-            if !pieces.is_empty() {
-                return Ok(Some(Said { number, pieces }));
+            Refusal::at(number, divide(line, &mut said.pieces))?;
+            if !said.pieces.is_empty() {
+                said.number = number;
+                return Ok(true);
             }
         }
-        Ok(None)
+        Ok(false)
     }
 
     // A line that has to be there: where the text ends before it, the line behind the last one is faulty.
@@ -58,12 +60,13 @@ impl<'a> Lines<'a> {
         ensures said { Requires (end_of self.old) (said_left self.old) result (said_left self.new) }
         ensures end { end_of self.new ≡ end_of self.old }
     {
-        let Some(said) = self.next_said(heap)? else {
+        let mut said = Said::new(heap);
+        if !self.read_said(&mut said)? {
             return Err(Refusal {
                 line: self.number,
                 fault: Fault::Malformed,
             });
-        };
+        }
         Ok(said)
     }
 }

@@ -1,9 +1,12 @@
-use Rattle.std.proofs.Common.{◌≡◌, true, eqb, length, rules}
+use Rattle.std.proofs.Common.{◌≡◌, true, eqb, length, sym, ap, ◌∙◌, rules}
 use Rattle.std.proofs.lemmas.Result.{err_from_is_err_and}
+use Rattle.names.specs.Names.{given}
+use Rattle.names.specs.Wire.{wire}
 use Rattle.wire.specs.Cuts.{then, next}
 use Rattle.wire.specs.Packets.{query_in}
 use Rattle.wire.specs.Shapes.{query_shape}
 use Rattle.wire.proofs.Shaping.{ends, goes_on}
+use Rattle.wire.proofs.Upper.{bad_lower, made_name}
 use Rattle.wire.proofs.query.QueryPacket.read.Goals as goal
 
 pub returns-in_default : goal.returns-in_default
@@ -26,30 +29,37 @@ pub returns-then-not-is_empty : goal.returns-then-not-is_empty
 unfolding then query_shape
 returns-then-not-is_empty c = rw (c.in-Some.ensures, c.in-Some-list.ensures.1, c.in-Some-byte.ensures, c.in-Some-list-2.ensures.1, goes_on _ c.list-2.new.self.rest.now (search rules))
 
+pub returns-in_err-lower : goal.returns-in_err-lower
+unfolding then query_shape
+returns-in_err-lower c =
+    let p = err_from_is_err_and c.from_residual.result c.from_residual.ensures.1 in
+    let e : eqb (length c.list-2.new.self.rest.now) 0 ≡ true = search rules in
+    let bad = sym (c.name_in.ensures _ c.in-Some-list-2.ensures.2) ∙ ap given c.in_err-lower.was in
+    rw (p.1, p.2, c.in-Some.ensures, c.in-Some-list.ensures.1, c.in-Some-byte.ensures, c.in-Some-list-2.ensures.1, ends) (sym (bad_lower _ _ bad))
+
 pub returns-in_err-apex : goal.returns-in_err-apex
 unfolding then next query_shape query_in
 returns-in_err-apex c =
-    let p = err_from_is_err_and c.from_residual.result c.from_residual.ensures.1 in
+    let p = err_from_is_err_and c.from_residual-in_err-apex.result c.from_residual-in_err-apex.ensures.1 in
     let e : eqb (length c.list-2.new.self.rest.now) 0 ≡ true = search rules in
-    rw (p.1, p.2, c.in-Some.ensures, c.in-Some-list.ensures.1, c.in-Some-byte.ensures, c.in-Some-list-2.ensures.1, ends, ← c.name_in.ensures _ c.in-Some-list.ensures.2, c.in_err-apex.was)
+    let name = sym (ap given c.in_ok-lower.was) ∙ c.name_in.ensures _ c.in-Some-list-2.ensures.2 in
+    let apex = c.upper_name_in.ensures c.in-Some-list.ensures.0 c.in-Some-list.ensures.2 (c.in-Some-list-2.ensures.2 ∙ ap wire (sym (made_name _ _ name))) in
+    rw (p.1, p.2, c.in-Some.ensures, c.in-Some-list.ensures.1, c.in-Some-byte.ensures, c.in-Some-list-2.ensures.1, ends, ← apex, c.in_err-apex.was)
 
-pub returns-in_err-kind : goal.returns-in_err-kind
+pub returns-in_err-try_from : goal.returns-in_err-try_from
 unfolding then next query_shape query_in
-returns-in_err-kind c =
-    let p = err_from_is_err_and c.from_residual-in_err-kind.result c.from_residual-in_err-kind.ensures.1 in
+returns-in_err-try_from c =
+    let p = err_from_is_err_and c.from_residual-in_err-try_from.result c.from_residual-in_err-try_from.ensures.1 in
     let e : eqb (length c.list-2.new.self.rest.now) 0 ≡ true = search rules in
-    rw (p.1, p.2, c.in-Some.ensures, c.in-Some-list.ensures.1, c.in-Some-byte.ensures, c.in-Some-list-2.ensures.1, ends, ← c.name_in.ensures _ c.in-Some-list.ensures.2, c.in_ok-apex.was, ← c.try_from.ensures, c.in_err-kind.was)
-
-pub returns-in_err-name : goal.returns-in_err-name
-unfolding then next query_shape query_in
-returns-in_err-name c =
-    let p = err_from_is_err_and c.from_residual-in_err-name.result c.from_residual-in_err-name.ensures.1 in
-    let e : eqb (length c.list-2.new.self.rest.now) 0 ≡ true = search rules in
-    rw (p.1, p.2, c.in-Some.ensures, c.in-Some-list.ensures.1, c.in-Some-byte.ensures, c.in-Some-list-2.ensures.1, ends, ← c.name_in.ensures _ c.in-Some-list.ensures.2, c.in_ok-apex.was, ← c.try_from.ensures, c.in_ok-kind.was, ← c.name_in-2.ensures _ c.in-Some-list-2.ensures.2, c.in_err-name.was)
+    let name = sym (ap given c.in_ok-lower.was) ∙ c.name_in.ensures _ c.in-Some-list-2.ensures.2 in
+    let apex = c.upper_name_in.ensures c.in-Some-list.ensures.0 c.in-Some-list.ensures.2 (c.in-Some-list-2.ensures.2 ∙ ap wire (sym (made_name _ _ name))) in
+    rw (p.1, p.2, c.in-Some.ensures, c.in-Some-list.ensures.1, c.in-Some-byte.ensures, c.in-Some-list-2.ensures.1, ends, ← apex, c.in_ok-apex.was, ← c.try_from.ensures, c.in_err-try_from.was)
 
 pub returns : goal.returns
 unfolding then next query_shape query_in
 returns c =
     let e : eqb (length c.list-2.new.self.rest.now) 0 ≡ true = search rules in
-    rw (c.in-Some.ensures, c.in-Some-list.ensures.1, c.in-Some-byte.ensures, c.in-Some-list-2.ensures.1, ends, ← c.name_in.ensures _ c.in-Some-list.ensures.2, c.in_ok-apex.was, ← c.try_from.ensures, c.in_ok-kind.was, ← c.name_in-2.ensures _ c.in-Some-list-2.ensures.2, c.in_ok-name.was)
+    let name = sym (ap given c.in_ok-lower.was) ∙ c.name_in.ensures _ c.in-Some-list-2.ensures.2 in
+    let apex = c.upper_name_in.ensures c.in-Some-list.ensures.0 c.in-Some-list.ensures.2 (c.in-Some-list-2.ensures.2 ∙ ap wire (sym (made_name _ _ name))) in
+    rw (c.in-Some.ensures, c.in-Some-list.ensures.1, c.in-Some-byte.ensures, c.in-Some-list-2.ensures.1, ends, ← apex, c.in_ok-apex.was, ← c.try_from.ensures, c.in_ok-try_from.was, ← name)
     c.new.ensures

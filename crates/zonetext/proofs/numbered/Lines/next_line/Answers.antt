@@ -1,8 +1,8 @@
-use Rattle.std.proofs.Common.{length, ◌∙◌, sym, arith, rules, tests}
+use Rattle.std.proofs.Common.{length, ◌∙◌, sym, arith}
 use Rattle.std.proofs.lemmas.Bool.{eqb-true, eqb-false}
 use Rattle.std.proofs.lemmas.List.{take_rest}
 use Rattle.zonetext.proofs.Runs.{first_byte}
-use Rattle.zonetext.proofs.Lining.{next_is, no_lines, is_end}
+use Rattle.zonetext.proofs.Lining.{next_is, no_lines}
 use Rattle.zonetext.proofs.numbered.Lines.next_line.Goals as goal
 
 pub returns-then-is_empty-clause-line : goal.returns-then-is_empty-clause-line

@@ -1,6 +1,6 @@
 use Rattle.std.proofs.Common.{◌≡◌, ◌≤◌, length}
 use Rattle.zonetext.specs.Numbered.{said_left, end_of}
-use Rattle.zonetext.proofs.numbered.Lines.next_said.Given as goal
+use Rattle.zonetext.proofs.numbered.Lines.read_said.Given as goal
 
 abbrev pub invariant-loop-number : goal.invariant-loop-number
 invariant-loop-number l = (said_left l.self ≡ said_left l.initial.self) × (end_of l.self ≡ end_of l.initial.self) × (length l.self.rest.now ≤ length l.initial.self.rest.now)
