@@ -1,6 +1,9 @@
 mod Searched
 mod Judging
 mod Together
+mod Marks
+mod Putting
+mod Taking
 mod Rows
 mod Cutting
 mod Numbering
@@ -9,4 +12,4 @@ mod Orders
 mod Inserting
 mod Present
 mod Rejoining
-mod Taking
+mod Brought

@@ -1,9 +1,11 @@
 -- What searches of a slice of sets answer.
-use Rattle.std.proofs.Common.{◌≡◌, Bool, true, false, cond, ◌||◌, List, [], ◌∷◌, map, is_some, Some, None, Option, sym, refl, ap, ◌∙◌}
+use Rattle.std.proofs.Common.{◌≡◌, ℕ, Bool, true, false, cond, ◌||◌, eqb, List, [], ◌∷◌, map, length, is_some, Some, sym, refl, ap, ◌∙◌}
 use Rattle.std.specs.List.{list_any}
-use Rattle.std.proofs.lemmas.Bool.{cond-true, cond-false}
+use Rattle.std.proofs.lemmas.Bool.{cond-true, cond-false, ne_eqb}
+use Rattle.names.specs.Wire.{wire}
 use Rattle.meaning.specs.Model.{Set}
-use Rattle.meaning.specs.Says.{find}
+use Rattle.meaning.specs.Says.{same, find}
+use Rattle.meaning.proofs.Rules.{same_so}
 use Rattle.zones.specs.Valid.{clash, clashes}
 
 module _ {A : Type 0} (of : A → Set) where
@@ -23,3 +25,11 @@ any_found test (s ∷ ss) = go (test s) refl (any_found test ss)
 pub any_clashes : (s : Set) (ss : List Set) → list_any (clash s) ss ≡ clashes s ss
 any_clashes s [] = refl
 any_clashes s (t ∷ ss) = ap (λ b. clash s t || b) (any_clashes s ss)
+
+-- names of different lengths are different
+pub apart_by_length : (a b : List (List ℕ)) (m n : ℕ) → m ≡ length (wire a) → n ≡ length (wire b) → (m ≡ n → ⊥) → eqb m n ≡ same a b
+apart_by_length a b m n e f h = ne_eqb m n h ∙ sym (go (same a b) refl)
+  where
+    go : (c : Bool) → same a b ≡ c → same a b ≡ false
+    go false k = k
+    go true k = absurd (h (e ∙ ap (λ x. length (wire x)) (same_so a b k) ∙ sym f))

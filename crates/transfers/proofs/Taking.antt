@@ -1,196 +1,138 @@
--- What a part that is taken brings, and of which version it is.
-use Rattle.std.proofs.Common.{◌≡◌, ℕ, ◌+◌, true≢false, Bool, true, false, cond, ◌&&◌, ◌||◌, not, eqb, ltb, List, [], ◌∷◌, length, Ok, Err, Result, sym, refl, ap, ◌∙◌, subst, inl, inr, ◌⊎◌, ⊎_elim}
-use mathlib.Core.List.Memᴰ
-use mathlib.Core.List.{Memᴰ}
-use Rattle.std.proofs.lemmas.Bool.{cond-true, cond-false, and_parts, eqb-true, cases_Bool, cond_both}
+-- A part that is taken, from what was found of it.
+use Rattle.std.proofs.Common.{◌≡◌, ℕ, zero, suc, ◌<◌, ◌≤◌, ◌⊎◌, inl, inr, Bool, true, false, cond, ltb, List, [], ◌∷◌, replicate, Ok, Err, Result, sym, refl, ap, ◌∙◌, subst, arith}
+use Rattle.std.proofs.lemmas.Bool.{lt-ltb, le-ltb}
 use Rattle.names.specs.declared.fault.Fault.{Fault}
-use Rattle.names.specs.declared.fault.Fault.TheVariants.{Misplaced, Conflict, TooMuch, BadTransfer}
-use Rattle.meaning.specs.Model.{Set}
-use Rattle.zones.specs.Sorted.{is_before}
-use Rattle.zones.specs.Valid.{no_clash, insert_set}
+use Rattle.names.specs.declared.fault.Fault.TheVariants.{TooMuch, BadTransfer, NoMemory}
+use Rattle.meaning.specs.Model.{Set, Zone}
+use Rattle.zones.specs.Zones.{zone_from}
 use Rattle.wire.specs.Cuts.{next}
 use Rattle.wire.specs.Parts.{Part}
-use Rattle.wire.specs.Shapes.{Times}
-use Rattle.transfers.specs.Joining.{any_outside, any_stands, any_twice, any_cut_at, any_clash, insert_all, joined, Joining, same_times, is_counted, belongs_to, is_there, none_there, with_part, begun, begin, take}
-use Rattle.transfers.specs.TransferLaws.{SameVersion, OfVersion}
-use Rattle.transfers.proofs.Present.{marked_many, none_many}
+use Rattle.transfers.specs.Joining.{joined, added_all, Joining, is_counted, belongs_to, is_there, none_there, absent, with_part, begun, begin, take}
+use Rattle.transfers.specs.Joinings.{joining_from, Judges, Puts, Takes}
+use Rattle.transfers.proofs.Together.{none_refused}
 
--- ---- what was not refused
+-- ---- nothing is there at first
 
-cond_ok : {A : Type 0} (b : Bool) (f : Fault) (x : Result A Fault) (a : A) → cond b (Err f) x ≡ Ok a → x ≡ Ok a
-cond_ok true f x a h = cc
-cond_ok false f x a h = h
+pub none_yet : (n : ℕ) → replicate n false ≡ none_there n
+unfolding none_there
+none_yet zero = refl
+none_yet (suc n) = ap (λ bs. false ∷ bs) (none_yet n)
 
-cond_or : {A : Type 0} (b : Bool) (f : Fault) (x : Result A Fault) (a : A) → cond b x (Err f) ≡ Ok a → x ≡ Ok a
-cond_or true f x a h = h
-cond_or false f x a h = cc
+pub all_absent : (n : ℕ) → absent (none_there n) ≡ n
+unfolding none_there
+all_absent zero = refl
+all_absent (suc n) = let e = all_absent n in omega arith
 
-next_some : {A B : Type 0} (r : Result A Fault) (f : A → Result B Fault) (b : B) → next r f ≡ Ok b → (a : A) × (r ≡ Ok a) × (f a ≡ Ok b)
+pub not_yet : (n k : ℕ) → is_there (none_there n) k ≡ false
+unfolding none_there is_there
+not_yet zero k = refl
+not_yet (suc n) zero = refl
+not_yet (suc n) (suc zero) = refl
+not_yet (suc n) (suc (suc k)) = not_yet n (suc k)
+
+-- ---- what is due
+
+later : {A : Type 0} (due : Result A Fault) (f : A → Result Joining Fault) (x : A) → due ≡ Ok x → next due f ≡ f x
 unfolding next
-next_some (Ok a) f b h = (a, refl, h)
-next_some (Err g) f b h = cc
+later due f x e = ap (λ r. next r f) e
 
-ok_so : {A : Type 0} (a b : A) → ◌≡◌ {A = Result A Fault} (Ok a) (Ok b) → a ≡ b
-ok_so a b h = cc
+earlier : {A : Type 0} (due : Result A Fault) (f : A → Result Joining Fault) (x : Fault) → due ≡ Err x → next due f ≡ Err x
+unfolding next
+earlier due f x e = ap (λ r. next r f) e
 
-joined_so : (apex : List (List ℕ)) (old new ss : List Set) → joined apex old new ≡ Ok ss → insert_all new old ≡ ss
-unfolding joined
-joined_so apex old new ss h =
-    ok_so (insert_all new old) ss
-    (cond_ok (ltb 4096 (length old + length new)) TooMuch (Ok (insert_all new old)) ss
-    (cond_ok (any_cut_at apex new || not (no_clash new) || any_clash old new) Conflict (cond (ltb 4096 (length old + length new)) (Err TooMuch) (Ok (insert_all new old))) ss
-    (cond_ok (any_outside apex new || any_twice new || any_stands old new) Misplaced (cond (any_cut_at apex new || not (no_clash new) || any_clash old new) (Err Conflict) (cond (ltb 4096 (length old + length new)) (Err TooMuch) (Ok (insert_all new old)))) ss h)))
+module _ (apex : List (List ℕ)) (p : Part) where
+  abbrev after : List Set → Result Joining Fault
+  after ss = cond (ltb 4096 p.head.of) (Err TooMuch) (cond (is_counted p) (Ok (with_part (begun apex p) p ss)) (Err BadTransfer))
 
--- ---- members
+  pub first_refused : (f : Fault) → joined apex [] p.sets ≡ Err f → begin apex p ≡ Err f
+  unfolding begin
+  first_refused f e = earlier (joined apex [] p.sets) after f e
 
-abbrev From : Set → Set → List Set → List Set → Type 0
-From s t ss xs = Memᴰ s xs → (s ≡ t) ⊎ Memᴰ s ss
+  pub first_of_many : (ss : List Set) → joined apex [] p.sets ≡ Ok ss → 4096 < p.head.of → begin apex p ≡ Err TooMuch
+  unfolding begin
+  first_of_many ss e l = later (joined apex [] p.sets) after ss e ∙ (λ i. cond (lt-ltb 4096 p.head.of l i) (Err TooMuch) (cond (is_counted p) (Ok (with_part (begun apex p) p ss)) (Err BadTransfer)))
 
-insert_from : (s t : Set) (ss : List Set) → From s t ss (insert_set t ss)
-unfolding insert_set
-insert_from s t [] m = Memᴰ.cases_cons m
-insert_from s t (u ∷ ss) m =
-    cond_both (is_before t.name t.kind u) (u ∷ insert_set t ss) (t ∷ u ∷ ss) (From s t (u ∷ ss))
-    (λ _ n. ⊎_elim (λ e. inr (Memᴰ.head e)) (λ k. ⊎_elim (λ e. inl e) (λ i. inr (Memᴰ.tail i)) (insert_from s t ss k)) (Memᴰ.cases_cons n))
-    (λ _ n. Memᴰ.cases_cons n)
-    m
+  pub first_uncounted : (ss : List Set) → joined apex [] p.sets ≡ Ok ss → p.head.of ≤ 4096 → is_counted p ≡ false → begin apex p ≡ Err BadTransfer
+  unfolding begin
+  first_uncounted ss e l h = later (joined apex [] p.sets) after ss e ∙ (λ i. cond (le-ltb 4096 p.head.of l i) (Err TooMuch) (cond (h i) (Ok (with_part (begun apex p) p ss)) (Err BadTransfer)))
 
-insert_to : (s t : Set) (ss : List Set) → (s ≡ t) ⊎ Memᴰ s ss → Memᴰ s (insert_set t ss)
-unfolding insert_set
-insert_to s t [] o = ⊎_elim (λ e. Memᴰ.head e) (λ m. absurd (Memᴰ.not-nil m)) o
-insert_to s t (u ∷ ss) o =
-    cond_both (is_before t.name t.kind u) (u ∷ insert_set t ss) (t ∷ u ∷ ss) (Memᴰ s)
-    (λ _. ⊎_elim (λ e. Memᴰ.tail (insert_to s t ss (inl e))) (λ m. ⊎_elim (λ e. Memᴰ.head e) (λ k. Memᴰ.tail (insert_to s t ss (inr k))) (Memᴰ.cases_cons m)) o)
-    (λ _. ⊎_elim (λ e. Memᴰ.head e) (λ m. Memᴰ.tail m) o)
+  pub first_taken : (ss : List Set) → joined apex [] p.sets ≡ Ok ss → p.head.of ≤ 4096 → is_counted p ≡ true → begin apex p ≡ Ok (with_part (begun apex p) p ss)
+  unfolding begin
+  first_taken ss e l h = later (joined apex [] p.sets) after ss e ∙ (λ i. cond (le-ltb 4096 p.head.of l i) (Err TooMuch) (cond (h i) (Ok (with_part (begun apex p) p ss)) (Err BadTransfer)))
 
-all_from : (s : Set) (new old : List Set) → Memᴰ s (insert_all new old) → Memᴰ s old ⊎ Memᴰ s new
-unfolding insert_all
-all_from s [] old m = inl m
-all_from s (t ∷ new) old m =
-    ⊎_elim
-    (λ k. ⊎_elim (λ e. inr (Memᴰ.head e)) (λ n. inl n) (insert_from s t old k))
-    (λ k. inr (Memᴰ.tail k))
-    (all_from s new (insert_set t old) m)
+module _ (p : Part) (j : Joining) where
+  abbrev chosen : Bool → Bool → Result Joining Fault
+  chosen a b =
+      cond a
+      (cond b (next (joined j.apex [] p.sets) (λ ss. Ok j)) (next (joined j.apex j.sets p.sets) (λ ss. Ok (with_part j p ss))))
+      (next (joined j.apex [] p.sets) (λ ss. Err BadTransfer))
 
-all_to : (s : Set) (new old : List Set) → Memᴰ s old ⊎ Memᴰ s new → Memᴰ s (insert_all new old)
-unfolding insert_all
-all_to s [] old o = ⊎_elim (λ m. m) (λ m. absurd (Memᴰ.not-nil m)) o
-all_to s (t ∷ new) old o =
-    ⊎_elim
-    (λ m. all_to s new (insert_set t old) (inl (insert_to s t old (inr m))))
-    (λ m. ⊎_elim (λ e. all_to s new (insert_set t old) (inl (insert_to s t old (inl e)))) (λ k. all_to s new (insert_set t old) (inr k)) (Memᴰ.cases_cons m))
-    o
+  pub strange : (ss : List Set) → belongs_to j p ≡ false → joined j.apex [] p.sets ≡ Ok ss → take p j ≡ Err BadTransfer
+  unfolding take
+  strange ss h e = ap (λ a. chosen a (is_there j.there p.head.part)) h ∙ later (joined j.apex [] p.sets) (λ ss. Err BadTransfer) ss e
 
--- ---- of which version
+  pub strange_refused : (f : Fault) → belongs_to j p ≡ false → joined j.apex [] p.sets ≡ Err f → take p j ≡ Err f
+  unfolding take
+  strange_refused f h e = ap (λ a. chosen a (is_there j.there p.head.part)) h ∙ earlier (joined j.apex [] p.sets) (λ ss. Err BadTransfer) f e
 
-so_same : (s t : Times) → same_times s t ≡ true → s ≡ t
-so_same s t h =
-    let p = and_parts (eqb s.negative t.negative && eqb s.refresh t.refresh) (eqb s.expire t.expire) h in
-    let q = and_parts (eqb s.negative t.negative) (eqb s.refresh t.refresh) p.0 in
-    let a = eqb-true s.negative t.negative q.0 in
-    let b = eqb-true s.refresh t.refresh q.1 in
-    let c = eqb-true s.expire t.expire p.1 in
-    λ i. record { negative = a i; refresh = b i; expire = c i }
+  again : (ss : List Set) → belongs_to j p ≡ true → is_there j.there p.head.part ≡ true → joined j.apex [] p.sets ≡ Ok ss → take p j ≡ Ok j
+  unfolding take
+  again ss h k e = (λ i. chosen (h i) (k i)) ∙ later (joined j.apex [] p.sets) (λ ss. Ok j) ss e
 
-of_version : (j : Joining) (p : Part) → belongs_to j p ≡ true → OfVersion j p
-of_version j p h =
-    let a = and_parts (eqb p.head.serial j.serial && eqb p.head.moment j.moment && same_times p.head.times j.times && eqb p.head.of (length j.there)) (is_counted p) h in
-    let b = and_parts (eqb p.head.serial j.serial && eqb p.head.moment j.moment && same_times p.head.times j.times) (eqb p.head.of (length j.there)) a.0 in
-    let c = and_parts (eqb p.head.serial j.serial && eqb p.head.moment j.moment) (same_times p.head.times j.times) b.0 in
-    let d = and_parts (eqb p.head.serial j.serial) (eqb p.head.moment j.moment) c.0 in
-    record {
-      serial = eqb-true p.head.serial j.serial d.0;
-      moment = eqb-true p.head.moment j.moment d.1;
-      times = so_same p.head.times j.times c.1;
-      of = eqb-true p.head.of (length j.there) b.1;
-    }
+  again_refused : (f : Fault) → belongs_to j p ≡ true → is_there j.there p.head.part ≡ true → joined j.apex [] p.sets ≡ Err f → take p j ≡ Err f
+  unfolding take
+  again_refused f h k e = (λ i. chosen (h i) (k i)) ∙ earlier (joined j.apex [] p.sets) (λ ss. Ok j) f e
 
--- ---- a part that was taken: it was there already, or its sets came
+  taken : (ss : List Set) → belongs_to j p ≡ true → is_there j.there p.head.part ≡ false → joined j.apex j.sets p.sets ≡ Ok ss → take p j ≡ Ok (with_part j p ss)
+  unfolding take
+  taken ss h k e = (λ i. chosen (h i) (k i)) ∙ later (joined j.apex j.sets p.sets) (λ ss. Ok (with_part j p ss)) ss e
 
-pub record Came (p : Part) (j k : Joining) : Type 0 where
-  pub missing : is_there j.there p.head.part ≡ false
-  pub new_is : with_part j p (insert_all p.sets j.sets) ≡ k
+  pub taken_refused : (f : Fault) → belongs_to j p ≡ true → is_there j.there p.head.part ≡ false → joined j.apex j.sets p.sets ≡ Err f → take p j ≡ Err f
+  unfolding take
+  taken_refused f h k e = (λ i. chosen (h i) (k i)) ∙ earlier (joined j.apex j.sets p.sets) (λ ss. Ok (with_part j p ss)) f e
 
-took : (p : Part) (j k : Joining) → take p j ≡ Ok k → (belongs_to j p ≡ true) × ((is_there j.there p.head.part ≡ true) × (j ≡ k) ⊎ Came p j k)
-unfolding take
-took p j k h =
-    ⊎_elim
-    (λ b. (b, by_place (is_there j.there p.head.part) refl (sym (cond-true (belongs_to j p) known strange b) ∙ h)))
-    (λ b. let n = next_some (joined j.apex [] p.sets) (λ ss. Err BadTransfer) k (sym (cond-false (belongs_to j p) known strange b) ∙ h) in absurd (no_ok BadTransfer k n.2))
-    (cases_Bool (belongs_to j p))
-  where
-    again : Result Joining Fault
-    again = next (joined j.apex [] p.sets) (λ ss. Ok j)
+-- ---- as the calls tell it
 
-    anew : Result Joining Fault
-    anew = next (joined j.apex j.sets p.sets) (λ ss. Ok (with_part j p ss))
+pub judged_as : {A : Type 0} (a b : List (List ℕ)) (old ss ts : List Set) (r : Result A Fault) → a ≡ b → ss ≡ ts → Judges a old ss r → Judges b old ts r
+judged_as a b old ss ts r e f h = subst (λ c. Judges c old ts r) e (subst (λ us. Judges a old us r) f h)
 
-    known : Result Joining Fault
-    known = cond (is_there j.there p.head.part) again anew
+pub judged_at : (a b : List (List ℕ)) (old ss ts : List Set) (r : Result (List Set) Fault) → a ≡ b → ss ≡ ts → joined a old ss ≡ r → joined b old ts ≡ r
+judged_at a b old ss ts r e f h = subst (λ c. joined c old ts ≡ r) e (subst (λ us. joined a old us ≡ r) f h)
 
-    strange : Result Joining Fault
-    strange = next (joined j.apex [] p.sets) (λ ss. Err BadTransfer)
+pub by_judging : {A : Type 0} (p : Part) (j : Joining) (r : Result A Fault) → belongs_to j p ≡ true → is_there j.there p.head.part ≡ true → Judges j.apex [] p.sets r → Takes (take p j) j r j
+by_judging p j (Ok a) h k e = again p j _ h k e
+by_judging p j (Err f) h k e = (inl (again_refused p j f h k e), refl)
 
-    no_ok : (f : Fault) (x : Joining) → ◌≡◌ {A = Result Joining Fault} (Err f) (Ok x) → ⊥
-    no_ok f x e = cc
+no_ok : {A : Type 0} (x : A) (f : Fault) (due : Result A Fault) → due ≡ Ok x → due ≡ Err f → ⊥
+no_ok x f due e h = let q : Err f ≡ Ok x = sym h ∙ e in let w : ◌≡◌ {A = ℕ} 0 1 = cc in omega arith
 
-    by_place : (b : Bool) → is_there j.there p.head.part ≡ b → known ≡ Ok k → (is_there j.there p.head.part ≡ true) × (j ≡ k) ⊎ Came p j k
-    by_place true t e =
-        let n = next_some (joined j.apex [] p.sets) (λ ss. Ok j) k (sym (cond-true (is_there j.there p.head.part) again anew t) ∙ e) in
-        inl (t, ok_so j k n.2)
-    by_place false t e =
-        let n = next_some (joined j.apex j.sets p.sets) (λ ss. Ok (with_part j p ss)) k (sym (cond-false (is_there j.there p.head.part) again anew t) ∙ e) in
-        inr (record { missing = t; new_is = ap (with_part j p) (joined_so j.apex j.sets p.sets n.0 n.1) ∙ ok_so (with_part j p n.0) k n.2 })
+inner : {A : Type 0} (x y : A) (due : Result A Fault) → due ≡ Ok x → due ≡ Ok y → x ≡ y
+inner x y due e h = let q : Ok x ≡ Ok y = sym e ∙ h in cc
 
--- ---- the laws
+pub at_first : (apex : List (List ℕ)) (p : Part) (z : Zone) (bs : List Bool) → z ≡ zone_from apex p.head.serial p.head.times.negative p.head.times.refresh p.head.times.expire [] → bs ≡ none_there p.head.of → joining_from z p.head.moment bs ≡ begun apex p
+at_first apex p z bs e f = λ i. joining_from (e i) p.head.moment (f i)
 
-pub one_version : (p : Part) (j k : Joining) → take p j ≡ Ok k → OfVersion j p × SameVersion j k
-one_version p j k h =
-    let t = took p j k h in (
-      of_version j p t.0,
-      ⊎_elim
-          (λ o. subst (SameVersion j) o.1 (record { apex = refl; serial = refl; moment = refl; times = refl; of = refl }))
-          (λ c. subst (SameVersion j) c.new_is (record { apex = refl; serial = refl; moment = refl; times = refl; of = marked_many j.there p.head.part }))
-          t.1,
-    )
+module _ (p : Part) (j k : Joining) (xs : List Set) (e : joined j.apex j.sets p.sets ≡ Ok xs) where
+  pub put_so : (ss : List Set) → added_all j.apex j.sets p.sets ≡ Ok ss → ss ≡ xs
+  put_so ss h = inner ss xs (added_all j.apex j.sets p.sets) h (none_refused j.apex j.sets p.sets xs e)
 
-pub said : (p : Part) (j k : Joining) (s : Set) → take p j ≡ Ok k → Memᴰ s k.sets → Memᴰ s j.sets ⊎ Memᴰ s p.sets
-said p j k s h m =
-    ⊎_elim
-    (λ o. inl (subst (λ (x : Joining). Memᴰ s x.sets) (sym o.1) m))
-    (λ c. all_from s p.sets j.sets (subst (λ (x : Joining). Memᴰ s x.sets) (sym c.new_is) m))
-    (took p j k h).1
+  pub put_failed : (f : Fault) → (added_all j.apex j.sets p.sets ≡ Err f) ⊎ ((f ≡ NoMemory) × (k ≡ j)) → (f ≡ NoMemory) × (k ≡ j)
+  put_failed f (inl h) = absurd (no_ok xs f (added_all j.apex j.sets p.sets) (none_refused j.apex j.sets p.sets xs e) h)
+  put_failed f (inr h) = h
 
-pub kept : (p : Part) (j k : Joining) (s : Set) → take p j ≡ Ok k → Memᴰ s j.sets → Memᴰ s k.sets
-kept p j k s h m =
-    ⊎_elim
-    (λ o. subst (λ (x : Joining). Memᴰ s x.sets) o.1 m)
-    (λ c. subst (λ (x : Joining). Memᴰ s x.sets) c.new_is (all_to s p.sets j.sets (inl m)))
-    (took p j k h).1
+  pub by_putting : {A : Type 0} (r : Result A Fault) → belongs_to j p ≡ true → is_there j.there p.head.part ≡ false → Puts p j r k → Takes (take p j) j r k
+  by_putting (Ok a) b t h = taken p j xs b t e ∙ ap (λ ss. Ok (with_part j p ss)) (sym (put_so h.0 h.1)) ∙ ap Ok (sym h.2)
+  by_putting (Err f) b t h = let m = put_failed f h in (inr m.0, m.1)
 
-pub brought : (p : Part) (j k : Joining) (s : Set) → take p j ≡ Ok k → is_there j.there p.head.part ≡ false → Memᴰ s p.sets → Memᴰ s k.sets
-brought p j k s h t m =
-    ⊎_elim
-    (λ o. absurd (true≢false (sym o.0 ∙ t)))
-    (λ c. subst (λ (x : Joining). Memᴰ s x.sets) c.new_is (all_to s p.sets j.sets (inr m)))
-    (took p j k h).1
+-- the first one is put into a zone without sets
+module _ (apex : List (List ℕ)) (p : Part) (j k : Joining) (xs : List Set) (new : j ≡ begun apex p) (e : joined apex [] p.sets ≡ Ok xs) where
+  beside_none : joined j.apex j.sets p.sets ≡ Ok xs
+  beside_none = subst (λ (i : Joining). joined i.apex i.sets p.sets ≡ Ok xs) (sym new) e
 
--- ---- the first part
+  pub first_put : (ss : List Set) → p.head.of ≤ 4096 → is_counted p ≡ true → added_all j.apex j.sets p.sets ≡ Ok ss → k ≡ with_part j p ss → begin apex p ≡ Ok k
+  first_put ss l c h is =
+      let so = put_so p j k xs beside_none ss h in
+      first_taken apex p xs e l c ∙ (λ i. Ok (with_part (sym new i) p (sym so i))) ∙ ap Ok (sym is)
 
-first : (apex : List (List ℕ)) (p : Part) (j : Joining) → begin apex p ≡ Ok j → with_part (begun apex p) p (insert_all p.sets []) ≡ j
-unfolding begin
-first apex p j h =
-    let made = λ (ss : List Set). cond (is_counted p) (Ok (with_part (begun apex p) p ss)) (Err BadTransfer) in
-    let n = next_some (joined apex [] p.sets) (λ ss. cond (ltb 4096 p.head.of) (Err TooMuch) (made ss)) j h in
-    let e = cond_ok (ltb 4096 p.head.of) TooMuch (made n.0) j n.2 in
-    ap (with_part (begun apex p) p) (joined_so apex [] p.sets n.0 n.1) ∙ ok_so (with_part (begun apex p) p n.0) j (cond_or (is_counted p) BadTransfer (Ok (with_part (begun apex p) p n.0)) j e)
-
-pub first_version : (apex : List (List ℕ)) (p : Part) (j : Joining) → begin apex p ≡ Ok j → (j.apex ≡ apex) × OfVersion j p
-first_version apex p j h =
-    subst (λ (x : Joining). (x.apex ≡ apex) × OfVersion x p) (first apex p j h)
-    (refl, record { serial = refl; moment = refl; times = refl; of = sym (marked_many (none_there p.head.of) p.head.part ∙ none_many p.head.of) })
-
-pub first_said : (apex : List (List ℕ)) (p : Part) (j : Joining) (s : Set) → begin apex p ≡ Ok j → (Memᴰ s j.sets → Memᴰ s p.sets) × (Memᴰ s p.sets → Memᴰ s j.sets)
-first_said apex p j s h =
-    subst (λ (x : Joining). (Memᴰ s x.sets → Memᴰ s p.sets) × (Memᴰ s p.sets → Memᴰ s x.sets)) (first apex p j h)
-    ((λ m. ⊎_elim (λ n. absurd (Memᴰ.not-nil n)) (λ n. n) (all_from s p.sets [] m)), (λ m. all_to s p.sets [] (inr m)))
+  pub first_failed : (f : Fault) → (added_all j.apex j.sets p.sets ≡ Err f) ⊎ ((f ≡ NoMemory) × (k ≡ j)) → f ≡ NoMemory
+  first_failed f h = (put_failed p j k xs beside_none f h).0

@@ -1,12 +1,12 @@
 -- Sets that may come together may come one by one: none of them is refused.
-use Rattle.std.proofs.Common.{◌≡◌, ℕ, suc, ◌+◌, ◌<◌, ◌≤◌, Bool, true, false, cond, not, ◌&&◌, ◌||◌, eqb, leb, ltb, List, [], ◌∷◌, length, is_some, Some, None, Ok, Err, Option, Result, sym, refl, ap, ◌∙◌, subst, true≢false, arith}
+use Rattle.std.proofs.Common.{◌≡◌, ℕ, ◌+◌, ◌≤◌, Bool, true, false, cond, not, ◌&&◌, ◌||◌, eqb, leb, ltb, List, [], ◌∷◌, length, Ok, Err, Result, sym, refl, ap, ◌∙◌, true≢false, arith}
 use Rattle.std.specs.List.{list_any}
-use Rattle.std.proofs.lemmas.Bool.{cond-true, cond-false, and_parts, or_parts, or_from, not-true, not-false, ltb-false, eqb-true, eq-eqb}
+use Rattle.std.proofs.lemmas.Bool.{and_parts, or_parts, or_from, not-true, not-false, ltb-false, eqb-true, eq-eqb}
 use Rattle.names.specs.declared.fault.Fault.{Fault}
 use Rattle.names.specs.declared.fault.Fault.TheVariants.{Misplaced, Conflict, TooMuch}
 use Rattle.names.specs.Order.{within}
 use Rattle.meaning.specs.Model.{delegates, Set}
-use Rattle.meaning.specs.Says.{same, is_exactly, find}
+use Rattle.meaning.specs.Says.{same, is_exactly}
 use Rattle.meaning.proofs.Rules.{same_so, so_same}
 use Rattle.zones.specs.Sorted.{is_before}
 use Rattle.zones.specs.Valid.{clash, clashes, no_clash, insert_set, added}

@@ -1,5 +1,5 @@
 -- How parts of a transfer are put together to a zone, whatever the order in which they come. Assumes nothing.
-use Rattle.std.specs.Prelude.{◌≡◌, ℕ, zero, suc, ◌+◌, Bool, true, false, cond, not, ◌&&◌, ◌||◌, List, [], ◌∷◌, length, is_some, Ok, Err, Result, ◌==◌, nat_le, nat_lt}
+use Rattle.std.specs.Prelude.{ℕ, zero, suc, ◌+◌, Bool, true, false, cond, not, ◌&&◌, ◌||◌, List, [], ◌∷◌, length, is_some, Ok, Err, Result, ◌==◌, nat_le, nat_lt}
 use Rattle.std.specs.List.{list_any}
 use Rattle.names.specs.declared.fault.Fault.{Fault}
 use Rattle.names.specs.declared.fault.Fault.TheVariants.{Misplaced, Conflict, TooMuch, BadTransfer}
@@ -9,7 +9,7 @@ use Rattle.meaning.specs.Says.{same, is_exactly, find}
 use Rattle.zones.specs.Valid.{clashes, no_clash, insert_set, added}
 use Rattle.wire.specs.Cuts.{next}
 use Rattle.wire.specs.Parts.{Part}
-use Rattle.wire.specs.Shapes.{Times, Head}
+use Rattle.wire.specs.Shapes.{Times}
 
 -- ---- sets beside those that are there
 

@@ -7,6 +7,7 @@ ghost use Rattle.transfers.specs.TransferLaws.{TransferLaws};
 mod joining;
 mod splitting;
 
+pub use joining::Joining;
 pub use splitting::{Part, split};
 
 // Splitting gives the zone's sets and no others, in parts that keep the rules of packets and are as full as can be.

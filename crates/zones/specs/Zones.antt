@@ -1,5 +1,5 @@
 -- What a `Zone` and a `Reply` stand for.
-use Rattle.std.specs.Prelude.{◌≡◌, ℕ, ◌<◌, Bool, true, false, ◌⊎◌, List, map, Ok, Err, vec_items, vec_len, vec_capacity, Result}
+use Rattle.std.specs.Prelude.{◌≡◌, ℕ, ◌-◌, min, Bool, true, false, ◌⊎◌, List, map, Ok, Err, vec_items, vec_len, vec_capacity, Vec, Result}
 use Rattle.names.specs.declared.fault.Fault.{Fault}
 use Rattle.names.specs.declared.fault.Fault.TheVariants.{NoMemory}
 use Rattle.names.specs.Names.{labels}
@@ -15,9 +15,12 @@ use Rattle.records.specs.Sets.{set_of}
 abbrev pub sets_of : SortedSets → List model.Set
 sets_of s = map set_of (vec_items s.sets)
 
--- one more can be put in without asking for memory
-abbrev pub has_room : SortedSets → Type 0
-has_room s = (vec_len s.sets < vec_capacity s.sets) × (vec_len s.fronts < vec_capacity s.fronts)
+-- how many more can be put in without asking for memory
+abbrev pub free_in : {A Z : Type 0} → Vec A Z → ℕ
+free_in v = vec_capacity v - vec_len v
+
+abbrev pub free_sets : SortedSets → ℕ
+free_sets s = min (free_in s.sets) (free_in s.fronts)
 
 abbrev pub cuts_in : Cuts → List (List (List ℕ))
 cuts_in c = map labels (vec_items c.names)
@@ -31,6 +34,9 @@ zone_of z = record {
   expire = z.times.expire.0;
   sets = sets_of z.sets;
 }
+
+abbrev pub free : declared.Zone → ℕ
+free z = min (free_sets z.sets) (free_in z.cuts.names)
 
 abbrev pub zone_from : List (List ℕ) → ℕ → ℕ → ℕ → ℕ → List model.Set → model.Zone
 zone_from a n x y w ss = record { apex = a; serial = n; negative = x; refresh = y; expire = w; sets = ss }

@@ -1,5 +1,5 @@
 use Rattle.transfers.proofs.Rejoining.{rejoins}
-use Rattle.transfers.proofs.Taking.{one_version, first_version, said, kept, brought, first_said}
+use Rattle.transfers.proofs.Brought.{one_version, first_version, said, kept, brought, first_said}
 use Rattle.transfers.proofs.transfer_laws.Goals as goal
 
 pub returns : goal.returns

@@ -14,16 +14,17 @@ use names::{Fault, Name};
 use records::RecordSet;
 use zones::{MAX_SETS, Zone};
 
+// Names of different lengths are told apart at once.
 fn is_at(set: &RecordSet, name: &Name) -> bool
     ensures { result ≡ same (set_of set.now).name (labels name.now) }
 {
-    *set.name() == *name
+    set.name().wire_len() == name.wire_len() && *set.name() == *name
 }
 
 fn is_same(set: &RecordSet, other: &RecordSet) -> bool
     ensures { result ≡ is_exactly (set_of set.now).name (set_of set.now).kind (set_of other.now) }
 {
-    is_at(other, set.name()) && other.kind() == set.kind()
+    other.kind() == set.kind() && is_at(other, set.name())
 }
 
 // Whether another set has this one's name and kind.
@@ -37,7 +38,7 @@ fn stands(others: &[RecordSet], set: &RecordSet) -> bool
 fn clash(set: &RecordSet, other: &RecordSet) -> bool
     ensures { result ≡ clash (set_of set.now) (set_of other.now) }
 {
-    is_at(set, other.name()) && (set.kind().is_alias() || other.kind().is_alias())
+    (set.kind().is_alias() || other.kind().is_alias()) && is_at(set, other.name())
 }
 
 fn clashes(set: &RecordSet, others: &[RecordSet]) -> bool
@@ -107,7 +108,7 @@ fn any_conflict(zone: &Zone, sets: &[RecordSet]) -> bool
 }
 
 // Whether the sets may come into a zone that has no others.
-pub fn check_alone(apex: &Name, sets: &[RecordSet]) -> Result<(), Fault>
+pub(super) fn check_alone(apex: &Name, sets: &[RecordSet]) -> Result<(), Fault>
     ensures { Judges (labels apex.now) [] (map set_of sets.now) result }
 {
     if any_outside(apex, sets) || any_twice(sets) {
@@ -123,7 +124,7 @@ pub fn check_alone(apex: &Name, sets: &[RecordSet]) -> Result<(), Fault>
 }
 
 // Whether they may come beside those that are there.
-pub fn check_beside(zone: &Zone, sets: &[RecordSet]) -> Result<(), Fault>
+pub(super) fn check_beside(zone: &Zone, sets: &[RecordSet]) -> Result<(), Fault>
     ensures { Judges (zone_of zone.now).apex (zone_of zone.now).sets (map set_of sets.now) result }
 {
     if any_twice(sets) || any_misplaced(zone, sets) {

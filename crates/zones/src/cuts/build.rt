@@ -6,7 +6,7 @@ ghost use Rattle.names.specs.Names.{labels};
 ghost use Rattle.names.specs.Order.{within};
 ghost use Rattle.records.specs.Sets.{set_of};
 ghost use Rattle.zones.specs.Cuts.{cut_over, new_cut, with_cut, with_any};
-ghost use Rattle.zones.specs.Zones.{cuts_in};
+ghost use Rattle.zones.specs.Zones.{cuts_in, free_in};
 
 use super::Cuts;
 use names::{Fault, Name};
@@ -35,13 +35,14 @@ impl Cuts {
         }
     }
 
-    // Room for one more.
-    pub fn reserve(&mut self) -> Result<(), Fault>
+    // Room for so many more.
+    pub fn reserve(&mut self, count: usize) -> Result<(), Fault>
         ensures apex { labels self.new.apex ≡ labels self.old.apex }
         ensures cuts { cuts_in self.new ≡ cuts_in self.old }
-        ensures room { MatchResult result (λ _. vec_len self.new.names < vec_capacity self.new.names) (λ f. f ≡ NoMemory) }
+        ensures kept { free_in self.old.names ≤ free_in self.new.names }
+        ensures room { MatchResult result (λ _. count ≤ free_in self.new.names) (λ f. (f ≡ NoMemory) × (free_in self.old.names < count)) }
     {
-        self.names.reserve(1)?;
+        self.names.reserve(count)?;
         Ok(())
     }
 
@@ -49,9 +50,10 @@ impl Cuts {
     fn add(&mut self, name: Name)
         requires inside { within (labels self.old.apex) (labels name) ≡ true }
         requires topmost { cut_over (labels name) (cuts_in self.old) ≡ None }
-        requires room { vec_len self.old.names < vec_capacity self.old.names }
+        requires room { 1 ≤ free_in self.old.names }
         ensures apex { labels self.new.apex ≡ labels self.old.apex }
         ensures cuts { cuts_in self.new ≡ with_cut (labels name) (cuts_in self.old) }
+        ensures room { free_in self.old.names ≤ free_in self.new.names + 1 }
     {
         let at = self.position(&name);
         let below = self.names.as_slice()[at..].partition_point(|cut| cut.is_within(&name));
@@ -62,9 +64,10 @@ impl Cuts {
     // A set more: a delegation that none is over becomes one of the topmost.
     pub fn add_set(&mut self, set: &RecordSet)
         requires inside { within (labels self.old.apex) (set_of set.now).name ≡ true }
-        requires room { vec_len self.old.names < vec_capacity self.old.names }
+        requires room { 1 ≤ free_in self.old.names }
         ensures apex { labels self.new.apex ≡ labels self.old.apex }
         ensures cuts { cuts_in self.new ≡ with_any (new_cut (set_of set.now) (cuts_in self.old)) (cuts_in self.old) }
+        ensures room { free_in self.old.names ≤ free_in self.new.names + 1 }
     {
         if set.kind().is_delegation() && self.find(set.name()).is_none() {
             self.add(*set.name());

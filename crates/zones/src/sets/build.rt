@@ -1,5 +1,5 @@
 // Making sorted sets, and reading them as they stand.
-ghost use Rattle.std.specs.Prelude.{◌≡◌, true, false, [], map, length, is_some, MatchResult};
+ghost use Rattle.std.specs.Prelude.{◌≡◌, ◌+◌, ◌<◌, ◌≤◌, true, false, [], map, length, is_some, MatchResult};
 ghost use Rattle.names.specs.declared.fault.Fault.TheVariants.{NoMemory};
 ghost use Rattle.names.specs.Fronts.{front_below};
 ghost use Rattle.names.specs.Names.{labels};
@@ -8,7 +8,7 @@ ghost use Rattle.meaning.specs.Says.{is_exactly, find};
 ghost use Rattle.records.specs.Sets.{set_of};
 ghost use Rattle.zones.specs.Sorted.{place};
 ghost use Rattle.zones.specs.Valid.{insert_set};
-ghost use Rattle.zones.specs.Zones.{sets_of, has_room};
+ghost use Rattle.zones.specs.Zones.{sets_of, free_sets};
 
 use super::SortedSets;
 use super::placing::Place;
@@ -46,14 +46,15 @@ impl SortedSets {
         self.sets.as_slice()
     }
 
-    // Room for one more.
-    pub fn reserve(&mut self) -> Result<(), Fault>
+    // Room for so many more.
+    pub fn reserve(&mut self, count: usize) -> Result<(), Fault>
         ensures apex { labels self.new.apex ≡ labels self.old.apex }
         ensures sets { sets_of self.new ≡ sets_of self.old }
-        ensures room { MatchResult result (λ _. has_room self.new) (λ f. f ≡ NoMemory) }
+        ensures kept { free_sets self.old ≤ free_sets self.new }
+        ensures room { MatchResult result (λ _. count ≤ free_sets self.new) (λ f. (f ≡ NoMemory) × (free_sets self.old < count)) }
     {
-        self.fronts.reserve(1)?;
-        self.sets.reserve(1)?;
+        self.fronts.reserve(count)?;
+        self.sets.reserve(count)?;
         Ok(())
     }
 
@@ -63,9 +64,10 @@ impl SortedSets {
         requires fresh { is_some (find (is_exactly (set_of set).name (set_of set).kind) (sets_of self.old)) ≡ false }
         requires at { to.at ≡ place (set_of set).name (set_of set).kind (sets_of self.old) }
         requires front { to.front ≡ front_below (length (labels self.old.apex)) (set_of set).name }
-        requires room { has_room self.old }
+        requires room { 1 ≤ free_sets self.old }
         ensures apex { labels self.new.apex ≡ labels self.old.apex }
         ensures sets { sets_of self.new ≡ insert_set (set_of set) (sets_of self.old) }
+        ensures room { free_sets self.old ≤ free_sets self.new + 1 }
     {
         // Behind all, none has to move.
         if to.at == self.sets.len() {

@@ -1,12 +1,13 @@
 // Making a zone, set by set, with every limit.
-ghost use Rattle.std.specs.Prelude.{◌≡◌, [], length, is_some, Ok, Err, MatchResult, nat_le};
+ghost use Rattle.std.specs.Prelude.{◌≡◌, ◌+◌, ◌≤◌, [], length, is_some, Ok, Err, IfErr, MatchResult, nat_le};
+ghost use Rattle.names.specs.declared.fault.Fault.TheVariants.{NoMemory};
 ghost use Rattle.names.specs.Fronts.{front_below};
 ghost use Rattle.names.specs.Names.{labels};
 ghost use Rattle.meaning.specs.Says.{same, is_exactly, find};
 ghost use Rattle.records.specs.Sets.{set_of};
 ghost use Rattle.zones.specs.Sorted.{place};
 ghost use Rattle.zones.specs.Valid.{clashes, added, insert_set};
-ghost use Rattle.zones.specs.Zones.{zone_of, zone_from, Inserts};
+ghost use Rattle.zones.specs.Zones.{zone_of, zone_from, free, Inserts};
 
 use super::{MAX_SETS, Times, Zone};
 use crate::cuts::Cuts;
@@ -87,14 +88,26 @@ impl Zone {
         Ok(())
     }
 
-    // One set more; a refusal leaves the zone as it was.
+    // Room for so many sets more.
+    pub fn reserve(&mut self, count: usize) -> Result<(), Fault>
+        ensures same { zone_of self.new ≡ zone_of self.old }
+        ensures room { MatchResult result (λ _. count ≤ free self.new) (λ f. f ≡ NoMemory) }
+    {
+        self.sets.reserve(count)?;
+        self.cuts.reserve(count)?;
+        Ok(())
+    }
+
+    // One set more; a refusal leaves the zone as it was. Where there is room for it, memory does not run out.
     pub fn insert(&mut self, set: RecordSet) -> Result<(), Fault>
-        ensures { Inserts (added (zone_of self.old).apex (zone_of self.old).sets (set_of set)) (zone_of self.old) result (zone_of self.new) }
+        ensures inserts { Inserts (added (zone_of self.old).apex (zone_of self.old).sets (set_of set)) (zone_of self.old) result (zone_of self.new) }
+        ensures room { free self.old ≤ free self.new + 1 }
+        ensures succeeds { 1 ≤ free self.old → IfErr result (λ f. added (zone_of self.old).apex (zone_of self.old).sets (set_of set) ≡ Err f) }
     {
         let place = self.place_of(&set)?;
         // Room first, so that nothing can fail once the set is in.
-        self.sets.reserve()?;
-        self.cuts.reserve()?;
+        self.sets.reserve(1)?;
+        self.cuts.reserve(1)?;
         self.cuts.add_set(&set);
         self.carried += set.transfer_len();
         self.sets.insert(place, set);

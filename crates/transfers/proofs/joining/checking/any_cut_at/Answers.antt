@@ -1,4 +1,4 @@
-use Rattle.std.proofs.Common.{not, map, ◌&&◌, ap, ◌∙◌, rules, tests}
+use Rattle.std.proofs.Common.{◌&&◌, ◌∙◌, rules, tests}
 use Rattle.std.proofs.lemmas.Iterator.{YieldsList-from_slice}
 use Rattle.std.proofs.lemmas.Iterator.Search.{any_from_yields_List}
 use Rattle.names.specs.Names.{labels}

@@ -1,9 +1,8 @@
-use Rattle.std.proofs.Common.{not, map, ◌&&◌, ap, ◌∙◌, rules, tests}
+use Rattle.std.proofs.Common.{not, ◌∙◌, rules, tests}
 use Rattle.std.proofs.lemmas.Iterator.{YieldsList-from_slice}
 use Rattle.std.proofs.lemmas.Iterator.Search.{any_from_yields_List}
 use Rattle.names.specs.Names.{labels}
 use Rattle.names.specs.Order.{within}
-use Rattle.meaning.specs.Model.{Set}
 use Rattle.records.specs.Sets.{set_of}
 use Rattle.transfers.proofs.Searched.{any_of}
 use Rattle.transfers.proofs.joining.checking.any_outside.Goals as goal

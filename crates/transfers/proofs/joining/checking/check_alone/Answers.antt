@@ -1,4 +1,4 @@
-use Rattle.std.proofs.Common.{◌≡◌, true, false, not, ◌||◌, [], map, sym, ap, ◌∙◌, arith}
+use Rattle.std.proofs.Common.{true, false, not, [], map, sym, ◌∙◌, arith}
 use Rattle.std.proofs.lemmas.Bool.{or_from}
 use Rattle.std.proofs.lemmas.List.{length-map}
 use Rattle.names.specs.Names.{labels}

@@ -63,8 +63,8 @@ invariant_of-self-2 c =
     let x = c.args.set in
     let a = labels s.apex in
     let at = c.args.to.at in
-    let items = c.insert.ensures.items ∙ cond-true (is_ok c.insert.result) (insert xs at x) xs (c.insert.ensures.succeeds c.requires.room.0) in
-    let fronts = c.insert-2.ensures.items ∙ cond-true (is_ok c.insert-2.result) (insert fs at c.args.to.front) fs (c.insert-2.ensures.succeeds c.requires.room.1) in
+    let items = c.insert.ensures.items ∙ cond-true (is_ok c.insert.result) (insert xs at x) xs (c.insert.ensures.succeeds (omega (arith, c.requires.room))) in
+    let fronts = c.insert-2.ensures.items ∙ cond-true (is_ok c.insert-2.result) (insert fs at c.args.to.front) fs (c.insert-2.ensures.succeeds (omega (arith, c.requires.room))) in
     let is = ap (map set_of) items ∙ put_in set_of xs x at c.requires.at in
     record {
       ordered = ap sorted is ∙ insert_sorted (set_of x) (sets_of s) s.ordered (new_so (sets_of s) (set_of x) c.requires.fresh);
@@ -76,4 +76,4 @@ pub returns-clause-sets : goal.returns-clause-sets
 returns-clause-sets c =
     let s = c.args.self.now in
     let xs = vec_items s.sets in
-    ap (map set_of) (c.insert.ensures.items ∙ cond-true (is_ok c.insert.result) (insert xs c.args.to.at c.args.set) xs (c.insert.ensures.succeeds c.requires.room.0)) ∙ put_in set_of xs c.args.set c.args.to.at c.requires.at
+    ap (map set_of) (c.insert.ensures.items ∙ cond-true (is_ok c.insert.result) (insert xs c.args.to.at c.args.set) xs (c.insert.ensures.succeeds (omega (arith, c.requires.room)))) ∙ put_in set_of xs c.args.set c.args.to.at c.requires.at
