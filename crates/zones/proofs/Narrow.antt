@@ -4,7 +4,6 @@ use lib.ListN.{length-map}
 use Rattle.std.specs.List.Sorted.{IsPartitionPoint, IsPartitionedBy, IsNonDecreasingBy}
 use Rattle.std.specs.List.{slice_range}
 use Rattle.std.specs.Ordering.{is_lt, is_le, ordering_reverse, ordering_then, nat_cmp}
-use Rattle.std.specs.Cmp.{ranks}
 use Rattle.std.proofs.lemmas.Bool.{cases_lt, cases_Bool, ltb-true, lt-ltb, eqb-true, eq-eqb}
 use Rattle.std.proofs.lemmas.List.{get_or-take, get_or-drop, get_or-map, length-take-le}
 use Rattle.names.specs.declared.name.Name.{Name}
@@ -16,9 +15,9 @@ use Rattle.names.proofs.Order.{order_flip, order_below, order_laws}
 use Rattle.meaning.specs.Model.{AliasOf, Set}
 use Rattle.records.specs.declared.set.RecordSet.{RecordSet}
 use Rattle.records.specs.Sets.{set_of}
-use Rattle.zones.specs.Sorted.{is_before, is_before_below, is_ahead_below, sorted, place, leading, all_within, fronts_of, Narrowed}
+use Rattle.zones.specs.Sorted.{is_before, is_before_below, sorted, place, leading, all_within, fronts_of, Narrowed}
 use Rattle.zones.proofs.Places.{mem_at, leading_is, place_leading, sets_fall, fronts_many}
-use Rattle.zones.proofs.ByPlace.{names_rise, least_kind, all_before}
+use Rattle.zones.proofs.ByPlace.{names_rise, all_before}
 use Rattle.zones.proofs.Topmost.{each_so}
 
 -- ---- two names, by which comes first
@@ -215,14 +214,6 @@ Agrees apex n k test = (s : Set) → within apex s.name ≡ true → within apex
 
 pub before_agrees : (apex n : List (List ℕ)) (k d : ℕ) → d ≡ length apex → Agrees apex n k (is_before_below d n k)
 before_agrees apex n k d e s v w = (λ i. is_lt (ordering_then (order (drop (e i) s.name) (drop (e i) n)) (nat_cmp s.kind k))) ∙ ap (λ x. is_lt (ordering_then x (nat_cmp s.kind k))) (order_below apex s.name n v w)
-
-pub ahead_agrees : (apex n : List (List ℕ)) (d : ℕ) → d ≡ length apex → Agrees apex n 0 (is_ahead_below d n)
-ahead_agrees apex n d e s v w = (λ i. is_lt (order (drop (e i) s.name) (drop (e i) n))) ∙ ap is_lt (order_below apex s.name n v w) ∙ go (order s.name n)
-  where
-    go : (r : Ordering) → is_lt r ≡ is_lt (ordering_then r (nat_cmp s.kind 0))
-    go Less = refl
-    go Equal = sym (least_kind s.kind (nat_cmp s.kind 0) (ranks s.kind 0))
-    go Greater = refl
 
 greater_behind : (n : List (List ℕ)) (k : ℕ) (s : Set) → is_lt (order n s.name) ≡ true → is_before n k s ≡ false
 greater_behind n k s h = go (order n s.name) refl h

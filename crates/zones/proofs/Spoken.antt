@@ -1,17 +1,12 @@
 -- What a zone says, by what its searches found.
-use Rattle.std.proofs.Common.{◌≡◌, ℕ, Bool, true, false, cond, not, ◌&&◌, ◌==◌, List, is_some, Some, None, Option, sym, refl, ap, ◌∙◌, true≢false}
-use Rattle.std.specs.Option.{option_map, IfSome}
+use Rattle.std.proofs.Common.{◌≡◌, ℕ, Bool, true, false, cond, List, Some, None, Option, sym, refl, ap, ◌∙◌}
 use Rattle.std.proofs.lemmas.Bool.{cond-true, cond-false}
 use Rattle.names.specs.Order.{within}
-use Rattle.meaning.specs.Model.{delegates, Set, Zone}
-use Rattle.meaning.specs.Says.{Speaker, ByDelegation, BySet, ByAlias, NoData, NoName, same, is_over, is_exactly, find, highest, any_under, or_else, speaker, says}
+use Rattle.meaning.specs.Model.{Set, Zone}
+use Rattle.meaning.specs.Says.{Speaker, ByDelegation, BySet, ByAlias, NoData, NoName, is_over, is_exactly, find, highest, any_under, or_else, speaker, says}
 use Rattle.meaning.specs.Speech.{undelegated}
-use Rattle.meaning.proofs.Finding.{Found, some, none, finds}
-use Rattle.meaning.proofs.Rules.{same_so}
 use Rattle.zones.specs.declared.reply.Reply.{Reply}
-use Rattle.zones.specs.Valid.{all_belong}
 use Rattle.zones.specs.Zones.{speaker_of}
-use Rattle.zones.proofs.Topmost.{belong_at}
 
 module _ (z : Zone) (q : List (List ℕ)) (k : ℕ) where
   -- the rules, by what each search found

@@ -48,12 +48,9 @@ set_at i ss = take 1 (drop i ss)
 abbrev pub fronts_of : ℕ → List Set → List ℕ
 fronts_of depth = map (λ s. front_below depth s.name)
 
--- the same by labels from a depth on, and of names alone
+-- the same by labels from a depth on
 abbrev pub is_before_below : ℕ → List (List ℕ) → ℕ → Set → Bool
 is_before_below depth n k s = is_lt (ordering_then (order (drop depth s.name) (drop depth n)) (nat_cmp s.kind k))
-
-abbrev pub is_ahead_below : ℕ → List (List ℕ) → Set → Bool
-is_ahead_below depth n s = is_lt (order (drop depth s.name) (drop depth n))
 
 -- only from low to high could sets stand at a name: those before have names before it, those from high on behind it; where
 -- there are any, the name is within the apex
