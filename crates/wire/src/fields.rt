@@ -1,6 +1,6 @@
 // The fields of a packet, taken off its front one by one.
-ghost use Rattle.std.specs.Prelude.{◌≡◌, ℕ, List, [], length, nat_eq, MatchOption};
-ghost use Rattle.std.specs.Option.{option_map};
+ghost use Rattle.std.specs.Prelude.{◌≡◌, ℕ, List, [], take, length, Ok, nat_eq, MatchOption};
+ghost use Rattle.std.specs.Option.{option_map, IfSome};
 ghost use Rattle.std.specs.Int.{w16, w32, w64};
 ghost use Rattle.wire.specs.Cuts.{cut_byte, cut_number, cut_list, cut_list_if, cut_what};
 ghost use Rattle.wire.specs.Fields.{unread, Takes, TakesNumber, IsList, IsName, TakesWhat};
@@ -33,19 +33,19 @@ pub fn name_in(list: &[u8]) -> Result<Name, Fault>
     Reader::new(list).name()
 }
 
-// The same, where the labels mostly are the first of those of another name: they are then not read once more.
+// How many labels a list has, if they are the first of those of another name.
 #[inline(always)]
-pub fn upper_name_in(list: &[u8], lower_list: &[u8], lower: &Name) -> Result<Name, Fault>
-    ensures { (ls : List (List ℕ)) → list.now ≡ wire ls → lower_list.now ≡ wire (labels lower.now) → given result ≡ name_of ls }
+pub fn front_count(list: &[u8], lower_list: &[u8], lower: &Name) -> Option<usize>
+    ensures { (ls : List (List ℕ)) → list.now ≡ wire ls → lower_list.now ≡ wire (labels lower.now) → IfSome result (λ n. Ok (take n (labels lower.now)) ≡ name_of ls) }
 {
     let ([count, front @ ..], [_, all @ ..]) = (list, lower_list) else {
-        return name_in(list);
+        return None;
     };
     let count = *count as usize;
     if count <= lower.label_count() && all.starts_with(front) {
-        Ok(lower.ancestor(count))
+        Some(count)
     } else {
-        name_in(list)
+        None
     }
 }
 

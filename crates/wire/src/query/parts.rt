@@ -1,5 +1,5 @@
 // Making a query, and its parts.
-ghost use Rattle.std.specs.Prelude.{◌≡◌};
+ghost use Rattle.std.specs.Prelude.{◌≡◌, take};
 ghost use Rattle.names.specs.Names.{labels};
 ghost use Rattle.wire.specs.Given.{query_of, query_given};
 ghost use Rattle.wire.specs.Packets.{query_from};
@@ -23,6 +23,19 @@ impl QueryPacket {
             kind,
             name,
         })
+    }
+
+    // Of a zone whose apex is the first labels of the name.
+    #[inline(always)]
+    pub(crate) fn under(id: QueryId, kind: Kind, name: Name, depth: usize) -> QueryPacket
+        ensures { query_of result ≡ record { id = id.0; apex = take depth (labels name); kind = kind.number; name = labels name } }
+    {
+        QueryPacket {
+            id,
+            apex: name.ancestor(depth),
+            kind,
+            name,
+        }
     }
 
     pub fn id(&self) -> QueryId

@@ -6,7 +6,7 @@ ghost use Rattle.wire.specs.Packets.{query_in};
 ghost use Rattle.wire.specs.Shapes.{query_shape};
 
 use super::QueryPacket;
-use crate::fields::{Fields, name_in, upper_name_in};
+use crate::fields::{Fields, front_count, name_in};
 use cache::QueryId;
 use names::Fault;
 use records::Kind;
@@ -32,9 +32,12 @@ impl QueryPacket {
         if !fields.is_empty() {
             return Err(Fault::Malformed);
         }
-        // The names are made once all lengths are known.
+        // The names are made once all lengths are known, and the apex mostly from the name.
         let lower = name_in(name)?;
-        let apex = upper_name_in(apex, name, &lower)?;
-        QueryPacket::new(QueryId(id), apex, Kind::try_from(kind)?, lower)
+        let kind = Kind::try_from(kind)?;
+        match front_count(apex, name, &lower) {
+            Some(depth) => Ok(QueryPacket::under(QueryId(id), kind, lower, depth)),
+            None => QueryPacket::new(QueryId(id), name_in(apex)?, kind, lower),
+        }
     }
 }
