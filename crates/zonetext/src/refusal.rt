@@ -1,5 +1,5 @@
 // A line that says something, and why one is refused.
-ghost use Rattle.std.specs.Prelude.{◌≡◌, Ok, Err, MatchResult};
+ghost use Rattle.std.specs.Prelude.{◌≡◌, [], Ok, Err, MatchResult};
 
 use crate::division::Piece;
 use names::Fault;
@@ -13,7 +13,10 @@ pub struct Said<'a> {
 
 impl<'a> Said<'a> {
     // Of no line yet.
-    pub fn new(heap: Global) -> Said<'a> {
+    pub fn new(heap: Global) -> Said<'a>
+        ensures number { result.number ≡ 0 }
+        ensures pieces { result.pieces.items ≡ [] }
+    {
         Said {
             number: 0,
             pieces: Vec::new(heap),
