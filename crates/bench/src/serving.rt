@@ -31,12 +31,7 @@ fn serve(heap: Global, zone: &Zone, query: &[u8], out: &mut Vec<u8>) -> Result<u
 }
 
 // How many bytes are sent in answer to so many queries, in turn, again and again.
-pub fn served(
-    heap: Global,
-    zone: &Zone,
-    queries: &[Vec<u8>],
-    wanted: u64,
-) -> Result<u64, Fault> {
+pub fn served(heap: Global, zone: &Zone, queries: &[Vec<u8>], wanted: u64) -> Result<u64, Fault> {
     let mut out = Vec::with_capacity(heap, MAX_PACKET)?;
     let mut sent: u64 = 0;
     for (_, query) in (0..wanted).zip(queries.iter().cycle()) {

@@ -15,8 +15,8 @@ use std::alloc::Global;
 use std::io::{BufRead, BufReader};
 use std::process::ExitCode;
 use std::{env, io};
-use words::words_of;
 use wire::Packet;
+use words::words_of;
 
 // Whether it is a packet.
 fn show(rt: &HostRuntime, heap: Global, digits: &str) -> io::Result<bool> {

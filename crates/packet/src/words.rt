@@ -3,7 +3,8 @@ use names::Fault;
 
 pub fn words_of(fault: Fault) -> &'static str {
     match fault {
-        Fault::Malformed => "of unknown kind, cut short, with bytes left over, or above 1,200 bytes",
+        Fault::Malformed =>
+            "of unknown kind, cut short, with bytes left over, or above 1,200 bytes",
         Fault::BadName => "a name that is none, or a kind that isn't there",
         Fault::BadData => "data that don't fit their kind, or too many or too few of them",
         Fault::Misplaced => "a name outside of the zone that is asked or answers",

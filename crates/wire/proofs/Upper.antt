@@ -59,6 +59,7 @@ made_name ls ms h = go (proper ls) refl
   where
     ok_same : (a b : List (List ℕ)) → ◌≡◌ {A = Result (List (List ℕ)) Fault} (Ok a) (Ok b) → a ≡ b
     ok_same a b e = cc
+
     go : (b : Bool) → proper ls ≡ b → ms ≡ ls
     go true e = ok_same ms ls (h ∙ cond-true (proper ls) (Ok ls) (Err BadName) e)
     go false e = let k : ◌≡◌ {A = Result (List (List ℕ)) Fault} (Ok ms) (Err BadName) = h ∙ cond-false (proper ls) (Ok ls) (Err BadName) e in let z : ◌≡◌ {A = ℕ} 0 1 = cc in absurd (omega arith)

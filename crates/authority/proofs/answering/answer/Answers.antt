@@ -28,11 +28,13 @@ pub returns-in_default : goal.returns-in_default
 returns-in_default c =
     let z = zone_of c.args.zone.now in
     let q = c.args.query.now in
-    let none : ◌≡◌ {A = Option Speaker} None (says z (labels q.name) q.kind.number) = search rules in
-    (λ h.
-      let inside = ap (λ a. within a (labels q.name)) h ∙ q.inside in
-      let some = says_laws.answers z (labels q.name) q.kind.number inside in
-      no_speaker some.0 (none ∙ some.1), refl)
+    let none : ◌≡◌ {A = Option Speaker} None (says z (labels q.name) q.kind.number) = search rules in (
+      λ h.
+          let inside = ap (λ a. within a (labels q.name)) h ∙ q.inside in
+          let some = says_laws.answers z (labels q.name) q.kind.number inside in
+          no_speaker some.0 (none ∙ some.1),
+      refl,
+    )
 
 pub returns : goal.returns
 unfolding tells
