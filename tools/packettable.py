@@ -13,6 +13,8 @@ import random
 import re
 import sys
 
+DATA = pathlib.Path(__file__).parent.parent / "crates" / "packet" / "data"
+
 LABEL = re.compile(rb"[a-z0-9-]{1,63}\Z")
 
 WORDS = {
@@ -193,12 +195,53 @@ def read(data):
     return (min(faults), []) if faults else (0, lines())
 
 
+# ---- parts of a zone
+
+LINE = re.compile(r'"([^"]*)"|([^ ";]+)')
+
+
+def zone_sets(text):
+    """The sets of a zone's text that is known to be good: name, kind, time and pieces, in the order of names and kinds."""
+    lines = [[Quoted(m[1]) if m[1] is not None else m[2] for m in LINE.finditer(line.split(" ;")[0])] for line in text.splitlines()]
+    lines = [line for line in lines if line and line[0] in ("top", "set")]
+    apex = labels_of(lines[0][1].rstrip("."))
+    sets = [record_bytes(apex, *line[1:]) for line in lines[1:]]
+    return [packed for _, packed in sorted(sets)]
+
+
+class Quoted(str):
+    pass
+
+
+def record_bytes(apex, name, kind, time, *data):
+    labels = labels_of(name[:-1]) if name.endswith(".") else apex + labels_of(name)
+    if int(kind) == 5:
+        pieces = [b".".join(reversed(apex + labels_of(data[0])))]
+    else:
+        pieces = [piece.encode() if isinstance(piece, Quoted) else bytes.fromhex(piece) for piece in data]
+    return (labels, int(kind)), listed(labels) + bytes([int(kind)]) + big(int(time), 4) + listed(pieces)
+
+
+def parts(text):
+    """How many sets and bytes each part has: as many sets as fit, one behind the other."""
+    rows = [[]]
+    for packed in zone_sets(text):
+        if 41 + sum(map(len, rows[-1])) + len(packed) > 1200:
+            rows.append([])
+        rows[-1].append(packed)
+    return [(len(row), 41 + sum(map(len, row))) for row in rows]
+
+
 def from_digits(digits):
     return bytes.fromhex(digits) if re.match(r"(?:[0-9A-Fa-f]{2})*\Z", digits) else None
 
 
 def shown(line):
     form, _, digits = line.partition(" ")
+    if form == "parts":
+        rows = parts((DATA / digits).read_text())
+        lines = [f"part {n} of {len(rows)}: {sets} sets, {size} bytes" for n, (sets, size) in enumerate(rows, 1)]
+        return lines + ["together they are the zone"]
     if form not in ("packet", "cuts"):
         return [line]
     data = from_digits(digits)
@@ -346,6 +389,10 @@ def table():
         yield "packet " + data.hex()
     yield "cuts " + a_part().hex()
     yield "cuts " + a_part([a_set(), alias], part=2, of=3).hex()
+    yield "# zones in parts, the last one first, each twice"
+    yield "parts village.zone"
+    yield "parts empty.zone"
+    yield "parts one.zone"
     yield "# none of them"
     yield "packet "
     for data in (b"\0", b"\5", b"\xff" + a_query()[1:], b"\1", b"\2", b"\3", b"\4", b"\1" * 1200, b"\1" * 1201):

@@ -1,15 +1,18 @@
 // Shows what packets say, or why they are none: `packet HEX ..`, or without arguments a table from standard input, where a line
-// `packet HEX` is shown, a line `cuts HEX` is read at every length, and any other line is a heading.
+// `packet HEX` is shown, a line `cuts HEX` is read at every length, of `parts FILE` the zone of a text is sent in parts and put
+// together, and any other line is a heading.
 #![tactic(auto)]
 
 mod cuts;
 mod hex;
+mod parts;
 mod saying;
 mod sets;
 mod words;
 
 use cuts::print_cuts;
 use hex::bytes_in;
+use parts::print_parts;
 use saying::print_packet;
 use std::alloc::Global;
 use std::io::{BufRead, BufReader};
@@ -38,13 +41,14 @@ fn show(rt: &HostRuntime, heap: Global, digits: &str) -> io::Result<bool> {
 }
 
 fn show_line(rt: &HostRuntime, heap: Global, line: &str) -> io::Result<()> {
-    let (form, digits) = line.split_once(' ').unwrap_or((line, ""));
+    let (form, rest) = line.split_once(' ').unwrap_or((line, ""));
     match form {
         "packet" => {
-            show(rt, heap, digits)?;
+            show(rt, heap, rest)?;
             Ok(())
         }
-        "cuts" => print_cuts(rt, heap, digits),
+        "cuts" => print_cuts(rt, heap, rest),
+        "parts" => print_parts(rt, heap, rest),
         _ => println!(rt; "{line}"),
     }
 }
