@@ -15,3 +15,4 @@ mod Taken
 mod Shorter
 mod Holding
 mod Reread
+mod Goodness

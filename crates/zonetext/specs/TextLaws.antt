@@ -30,13 +30,25 @@ good_data (Delegated d) = list_all is_address d.servers
 abbrev pub good_set : Set → Bool
 good_set s = proper s.name && is_kind s.kind && nat_lt s.ttl (2 ^ 32) && fits s.kind s.content && good_data s.content
 
+abbrev pub good_serial : ℕ → Bool
+good_serial n = is_serial n && nat_lt n (2 ^ 64)
+
+abbrev pub good_times : Zone → Bool
+good_times z = nat_lt z.negative (2 ^ 32) && nat_lt z.refresh (2 ^ 32) && nat_lt z.expire (2 ^ 32)
+
 pub record Good (z : Zone) : Type 0 where
   pub apex : proper z.apex ≡ true
-  pub serial : (is_serial z.serial && nat_lt z.serial (2 ^ 64)) ≡ true
-  pub times : (nat_lt z.negative (2 ^ 32) && nat_lt z.refresh (2 ^ 32) && nat_lt z.expire (2 ^ 32)) ≡ true
+  pub serial : good_serial z.serial ≡ true
+  pub times : good_times z ≡ true
   pub sets : list_all good_set z.sets ≡ true
   pub ordered : sorted z.sets ≡ true
   pub limited : valid z.apex z.sets ≡ true
+
+-- ---- a text that stands for a zone
+
+-- read as that zone, in the place of any that it renews, if the sets take 1 MiB at most in a transfer
+abbrev pub IsReadAs : List ℕ → Zone → Type 0
+IsReadAs text z = (old : Option Zone) → length (all_transferred z.sets) ≤ 1048576 → renews old z.apex z.serial ≡ true → text_meaning old text ≡ Ok z
 
 -- ---- pieces as a line can hold them
 

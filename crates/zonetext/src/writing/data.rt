@@ -1,10 +1,11 @@
 // Data as they stand in a text, each piece behind a space.
-ghost use Rattle.std.specs.Prelude.{◌≡◌, ◌<◌, [], ◌∷◌, map, vec_items};
+ghost use Rattle.std.specs.Prelude.{◌≡◌, ◌<◌, true, [], ◌∷◌, map, vec_items, IfOk};
 ghost use Rattle.std.specs.List.{list_all};
 ghost use Rattle.names.specs.Names.{labels};
 ghost use Rattle.records.specs.Contents.{bytes_of, content_of};
 ghost use Rattle.zonetext.specs.Division.{Text};
 ghost use Rattle.zonetext.specs.Appended.{Appends, AppendsIf};
+ghost use Rattle.zonetext.specs.TextLaws.{are_bytes, is_address, good_data};
 ghost use Rattle.zonetext.specs.Written.{hex_digit, hexadecimal, address_piece, other_piece, pieces_text, data_pieces, holds_text, holds_data};
 
 use super::name::write_name;
@@ -23,7 +24,8 @@ fn hex_digit(value: u8) -> u8
 }
 
 fn write_hex(bytes: &[u8], out: &mut Vec<u8>) -> Result<(), Fault>
-    ensures { Appends out.old.items (hexadecimal bytes.now) result out.new.items }
+    ensures written { Appends out.old.items (hexadecimal bytes.now) result out.new.items }
+    ensures good { IfOk result (λ _. are_bytes bytes.now ≡ true) }
 {
     for byte in bytes {
         out.push(hex_digit(*byte / 16))?;
@@ -33,14 +35,16 @@ fn write_hex(bytes: &[u8], out: &mut Vec<u8>) -> Result<(), Fault>
 }
 
 fn write_address(address: &Address, out: &mut Vec<u8>) -> Result<(), Fault>
-    ensures { Appends out.old.items (pieces_text (address_piece (bytes_of address.now) ∷ [])) result out.new.items }
+    ensures written { Appends out.old.items (pieces_text (address_piece (bytes_of address.now) ∷ [])) result out.new.items }
+    ensures good { IfOk result (λ _. is_address (bytes_of address.now) ≡ true) }
 {
     out.push(b' ')?;
     write_hex(&address.0, out)
 }
 
 fn write_addresses(addresses: &[Address], out: &mut Vec<u8>) -> Result<(), Fault>
-    ensures { Appends out.old.items (pieces_text (map address_piece (map bytes_of addresses.now))) result out.new.items }
+    ensures written { Appends out.old.items (pieces_text (map address_piece (map bytes_of addresses.now))) result out.new.items }
+    ensures good { IfOk result (λ _. list_all is_address (map bytes_of addresses.now) ≡ true) }
 {
     for address in addresses {
         write_address(address, out)?;
@@ -50,7 +54,8 @@ fn write_addresses(addresses: &[Address], out: &mut Vec<u8>) -> Result<(), Fault
 
 // What has no bytes is a text without any, since a word has some.
 fn write_other(piece: &[u8], out: &mut Vec<u8>) -> Result<(), Fault>
-    ensures { Appends out.old.items (pieces_text (other_piece piece.now ∷ [])) result out.new.items }
+    ensures written { Appends out.old.items (pieces_text (other_piece piece.now ∷ [])) result out.new.items }
+    ensures good { IfOk result (λ _. are_bytes piece.now ≡ true) }
 {
     if piece.is_empty() {
         out.extend_from_slice(b" \"\"")?;
@@ -61,7 +66,8 @@ fn write_other(piece: &[u8], out: &mut Vec<u8>) -> Result<(), Fault>
 }
 
 fn write_others(pieces: &[Vec<u8>], out: &mut Vec<u8>) -> Result<(), Fault>
-    ensures { Appends out.old.items (pieces_text (map other_piece (map vec_items pieces.now))) result out.new.items }
+    ensures written { Appends out.old.items (pieces_text (map other_piece (map vec_items pieces.now))) result out.new.items }
+    ensures good { IfOk result (λ _. list_all are_bytes (map vec_items pieces.now) ≡ true) }
 {
     for piece in pieces {
         write_other(piece.as_slice(), out)?;
@@ -98,7 +104,8 @@ fn write_texts(texts: &[Vec<u8>], out: &mut Vec<u8>) -> Result<(), Fault>
 }
 
 pub fn write_data(apex: &Name, content: &Data, out: &mut Vec<u8>) -> Result<(), Fault>
-    ensures { AppendsIf (holds_data (content_of content.now)) out.old.items (pieces_text (data_pieces (labels apex.now) (content_of content.now))) result out.new.items }
+    ensures written { AppendsIf (holds_data (content_of content.now)) out.old.items (pieces_text (data_pieces (labels apex.now) (content_of content.now))) result out.new.items }
+    ensures good { IfOk result (λ _. good_data (content_of content.now) ≡ true) }
 {
     match content {
         Data::Addresses(addresses) => write_addresses(addresses.as_slice(), out),
