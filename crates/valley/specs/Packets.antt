@@ -5,7 +5,7 @@ use Rattle.names.specs.Names.{labels}
 use Rattle.meaning.specs.Model as model
 use Rattle.zones.specs.declared.zone.Zone.{Zone}
 use Rattle.zones.specs.Zones.{zone_of}
-use Rattle.protocol.specs.Words.{Name}
+use Rattle.protocol.specs.Words.{Name, Word}
 use Rattle.protocol.specs.World.{Query, Response}
 use Rattle.cache.specs.Entries.{word_of}
 use Rattle.questions.specs.Queries.{query_of}
@@ -41,6 +41,10 @@ telling_of t = record {
 abbrev pub packet_of : rust.Packet → Packet
 packet_of (rust_packet.Query a) = Asking a.asker (query_of a.query)
 packet_of (rust_packet.Response t) = Responding (telling_of t)
+
+-- what is sent in response to a query: a word, and as of when it was had
+abbrev pub telling_for : ℕ → ℕ → Query → Word × ℕ → Telling
+telling_for asker server q p = record { asker = asker; server = server; response = record { id = q.id; apex = q.apex; word = p.0 }; moment = p.1 }
 
 -- as they go over the net
 abbrev pub asked_in : Query → wire.Query

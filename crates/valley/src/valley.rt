@@ -1,8 +1,14 @@
 // Owners, servers, askers and the net, by one clock.
-ghost use Rattle.std.specs.Prelude.{◌≡◌, ◌+◌, if◌then◌else◌, is_some, IfOk};
+ghost use Rattle.std.specs.Prelude.{◌≡◌, ◌+◌, if◌then◌else◌, is_some, IfOk, MatchResult};
+ghost use Rattle.std.specs.Int.{from_be_bytes, w64};
+ghost use Rattle.std.specs.Option.{option_map};
+ghost use Rattle.names.specs.declared.fault.Fault.TheVariants.{NoMemory};
+ghost use Rattle.names.specs.Names.{labels};
 ghost use Rattle.protocol.specs.World.{current};
+ghost use Rattle.questions.specs.Queries.{query_of};
+ghost use Rattle.valley.specs.Having.{kept_by, told_by};
 ghost use Rattle.valley.specs.Owning.{published_by};
-ghost use Rattle.valley.specs.Packets.{Renews};
+ghost use Rattle.valley.specs.Packets.{Renews, telling_of, telling_for};
 
 use crate::ages::Ages;
 use crate::bytes::bytes_of;
@@ -71,7 +77,9 @@ impl Valley {
         })
     }
 
-    pub fn now(&self) -> Moment {
+    pub fn now(&self) -> Moment
+        ensures { result.0 ≡ self.now.clock.moment }
+    {
         Moment(self.clock.now())
     }
 
@@ -167,7 +175,9 @@ impl Valley {
     }
 
     // What a server says to a query: nothing where it doesn't have the zone.
-    fn told(&self, heap: Global, asked: &Asked) -> Result<Option<Told>, Fault> {
+    fn told(&self, heap: Global, asked: &Asked) -> Result<Option<Told>, Fault>
+        ensures { MatchResult result (λ o. option_map telling_of o ≡ option_map (telling_for asked.now.asker (from_be_bytes w64 asked.now.query.server.0) (query_of asked.now.query)) (told_by self.now.clock.moment (published_by self.now.owners) (kept_by self.now.servers) (from_be_bytes w64 asked.now.query.server.0) (labels asked.now.query.key.apex) (labels asked.now.query.key.name) asked.now.query.key.kind.number)) (λ f. f ≡ NoMemory) }
+    {
         let key = &asked.query.key;
         let server = asked.server();
         let told = self
