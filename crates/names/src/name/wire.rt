@@ -20,9 +20,10 @@ fn cut_label(bytes: &[u8]) -> Option<(&[u8], &[u8])>
     rest.split_at_checked(len)
 }
 
-// One label more, unless one before it was bad; whether one is bad now.
+// One label more, unless one before it was bad; whether one is bad now. A refused label leaves the name.
 fn push_label(name: &mut Name, is_bad: bool, label: &[u8]) -> bool
-    ensures { made result (labels name.new) ≡ one_more (made is_bad (labels name.old)) label.now }
+    ensures value { made result (labels name.new) ≡ one_more (made is_bad (labels name.old)) label.now }
+    ensures kept { labels name.new ≡ (if result then labels name.old else labels name.old ++ label.now ∷ []) }
 {
     is_bad || name.push(label).is_err()
 }

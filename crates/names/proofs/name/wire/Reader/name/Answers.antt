@@ -41,7 +41,7 @@ loop-preserved c =
     let n = get_or bs 0 0 in
     let k : n - c.loop.counter - 1 ≡ n - (c.loop.counter + 1) = omega arith in
     subst (λ j. Cutting n (between 1 (length bs) bs) (made c.push_label-is_bad.result (labels c.push_label-is_bad.new.name)) j c.in-Some.after.now) k
-    (one_cut _ _ _ _ _ _ c.in-Some.label.now c.in-Some.after.now c.loop.invariant (omega arith) (sym c.in-Some.ensures) c.push_label-is_bad.ensures)
+    (one_cut _ _ _ _ _ _ c.in-Some.label.now c.in-Some.after.now c.loop.invariant (omega arith) (sym c.in-Some.ensures) c.push_label-is_bad.ensures.value)
 
 pub returns-then-is_bad : goal.returns-then-is_bad
 returns-then-is_bad c =
