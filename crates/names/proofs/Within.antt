@@ -1,6 +1,6 @@
 -- When one name lies within another: laws.
-use Rattle.std.proofs.Common.{◌≡◌, ℕ, nat_eq, true, ◌&&◌, ◌⊎◌, List, [], ◌∷◌, ◌++◌, length, Decides, take, sym, refl, ap, ◌∙◌, inl, inr, ⊎_elim, true≢false, arith}
-use Rattle.std.specs.Cmp.Lexicographic.{pointwise, pointwise_decides, bytes_decides}
+use Rattle.std.proofs.Common.{◌≡◌, ℕ, nat_eq, ◌<◌, Bool, true, false, ◌&&◌, ◌⊎◌, List, [], ◌∷◌, ◌++◌, length, Decides, take, sym, refl, ap, ◌∙◌, inl, inr, ⊎_elim, true≢false, arith}
+use Rattle.std.specs.Cmp.Lexicographic.{pointwise, pointwise_decides, bytes_decides, nat_list_eq_equiv}
 use Rattle.std.proofs.lemmas.Bool.{and_parts, and_from}
 use Rattle.names.specs.Order.{same_label, within, WithinLaws}
 
@@ -62,6 +62,17 @@ within_taken [] n = refl
 within_taken (l ∷ q) [] = refl
 within_taken (l ∷ q) (m ∷ n) = ap (λ b. same_label l m && b) (within_taken q n)
 
+-- no name lies within one with more labels
+pub within_longer : (q n : List (List ℕ)) → length n < length q → within q n ≡ false
+unfolding within
+within_longer [] n h = absurd (omega arith)
+within_longer (l ∷ q) [] h = refl
+within_longer (l ∷ q) (m ∷ n) h = ap (λ b. same_label l m && b) (within_longer q n (omega arith)) ∙ and_false (same_label l m)
+  where
+    and_false : (b : Bool) → (b && false) ≡ false
+    and_false true = refl
+    and_false false = refl
+
 -- names of one length, one within the other, are one name
 pub within_level : (q n : List (List ℕ)) → within q n ≡ true → length q ≡ length n → q ≡ n
 unfolding within
@@ -73,6 +84,14 @@ within_level (l ∷ q) (m ∷ n) h e =
     λ i. same_label_lem l m p.0 i ∷ within_level q n p.1 (omega arith) i
 
 -- ---- as equality of names
+
+-- of as many labels, a name is the same as one that it lies within
+pub told_same : (a b : List (List ℕ)) → length a ≡ length b → within b a ≡ pointwise (pointwise nat_eq) a b
+unfolding within
+told_same [] [] e = refl
+told_same [] (m ∷ b) e = absurd (omega arith)
+told_same (l ∷ a) [] e = absurd (omega arith)
+told_same (l ∷ a) (m ∷ b) e = λ i. nat_list_eq_equiv.symm m l i && told_same a b (omega arith) i
 
 -- it tells which names are the same
 pub names_told : (a b : List (List ℕ)) → Decides (pointwise (pointwise nat_eq) a b) (a ≡ b)

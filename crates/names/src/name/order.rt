@@ -26,8 +26,9 @@ impl Name {
     pub fn is_within(&self, upper: &Name) -> bool
         ensures { result ≡ within (labels upper.now) (labels self.now) }
     {
-        let front = self.labels().take(upper.label_count());
-        upper.labels().eq(front)
+        // The counts come first, here and in `==`: of two names that differ they tell most often, and no label is read.
+        let count = upper.label_count();
+        self.label_count() >= count && upper.labels().eq(self.labels().take(count))
     }
 
     // The order of two names by their labels from a depth on: all that is left to compare where those above are the same.
@@ -53,7 +54,7 @@ impl PartialEq for Name {
     ghost laws = { partial_equiv_from_equiv (on_equiv labels (lists_equiv nat_list_eq_equiv)) };
 
     fn eq(&self, other: &Name) -> bool {
-        self.labels().eq(other.labels())
+        self.label_count() == other.label_count() && self.is_within(other)
     }
 }
 
