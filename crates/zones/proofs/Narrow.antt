@@ -1,11 +1,12 @@
 -- Where sets can stand at a name, by the fronts alone, and the place of a name and kind among them.
-use Rattle.std.proofs.Common.{◌≡◌, ℕ, ◌+◌, ◌-◌, ◌<◌, ◌≤◌, Bool, true, false, eqb, ltb, ◌⊎◌, List, [], ◌∷◌, map, length, get_or, drop, Ordering, Less, Equal, Greater, sym, refl, ap, ◌∙◌, subst, inl, inr, min, ⊎_elim, true≢false, length-drop, arith}
+use Rattle.std.proofs.Common.{◌≡◌, ℕ, ◌+◌, ◌-◌, ◌<◌, ◌≤◌, Bool, true, false, eqb, ltb, not, ◌⊎◌, Option, Some, None, List, [], ◌∷◌, map, length, get_or, drop, Ordering, Less, Equal, Greater, sym, refl, ap, ◌∙◌, subst, inl, inr, ⊎_elim, true≢false, length-drop, arith}
 use lib.ListN.{length-map}
 use Rattle.std.specs.List.Sorted.{IsPartitionPoint, IsPartitionedBy, IsNonDecreasingBy}
-use Rattle.std.specs.List.{slice_range}
+use Rattle.std.specs.List.{slice_range, ItemBy}
+use Rattle.std.specs.Option.{option_eq}
 use Rattle.std.specs.Ordering.{is_lt, is_le, ordering_reverse, ordering_then, nat_cmp}
 use Rattle.std.proofs.lemmas.Bool.{cases_lt, cases_Bool, ltb-true, lt-ltb, eqb-true, eq-eqb}
-use Rattle.std.proofs.lemmas.List.{get_or-take, get_or-drop, get_or-map, length-take-le}
+use Rattle.std.proofs.lemmas.List.{get_or-take, get_or-drop, get_or-map, get_or_default, length-take-le}
 use Rattle.names.specs.declared.name.Name.{Name}
 use Rattle.names.specs.Fronts.{front_below}
 use Rattle.names.specs.Names.{labels}
@@ -76,6 +77,19 @@ less_before n k s h = go (order s.name n) refl h
 at_of : (xs : List RecordSet) (i : ℕ) → i < length xs → (x : RecordSet) × ((d : Set) → get_or (map set_of xs) i d ≡ set_of x)
 at_of [] i l = absurd (omega arith)
 at_of (x ∷ xs) i l = (get_or (x ∷ xs) i x, λ d. get_or-map set_of (x ∷ xs) i x d l)
+
+-- another number at an index, or none
+abbrev pub Another : List ℕ → ℕ → ℕ → Type 0
+Another fs i y = (length fs ≤ i) ⊎ ((i < length fs) × (get_or fs i 0 ≡ y → ⊥))
+
+-- as a look at the index finds it
+pub another_by : {R : Type 0} (now : R → ℕ) (fs : List ℕ) (i : ℕ) (r : Option R) (s : R) → ItemBy now fs i i r → true ≡ not (option_eq (λ x y. eqb (now x) (now y)) r (Some s)) → Another fs i (now s)
+another_by now fs i None s h e = inl h.3
+another_by now fs i (Some x) s h e = inr (h.3.0, λ f. absurd (true≢false (e ∙ ap not (eq-eqb (now x) (now s) (h.1 ∙ get_or_default fs i (now x) 0 h.3.0 ∙ f)))))
+
+pub there_by : {R : Type 0} (now : R → ℕ) (fs : List ℕ) (i : ℕ) (r : Option R) (s : R) → ItemBy now fs i i r → false ≡ not (option_eq (λ x y. eqb (now x) (now y)) r (Some s)) → i < length fs
+there_by now fs i None s h e = absurd (true≢false (sym e))
+there_by now fs i (Some x) s h e = h.3.0
 
 module _ (apex : List (List ℕ)) (xs : List RecordSet) (fs : List ℕ) (o : sorted (map set_of xs) ≡ true) (inside : all_within apex (map set_of xs) ≡ true) (m : fs ≡ fronts_of (length apex) (map set_of xs)) where
   many : length fs ≡ length xs
@@ -194,17 +208,17 @@ module _ (apex : List (List ℕ)) (xs : List RecordSet) (fs : List ℕ) (o : sor
             (λ (ge : get_or fs i 0 ≤ sought). absurd (true≢false (sym (eq-eqb (get_or rest (i - low) 0) sought (omega arith)) ∙ q.1 (i - low) 0 (omega arith) (omega arith))))
             (cases_lt sought (get_or fs i 0))
 
-    -- one alone, where the next has another front or there is none
-    pub narrowed_one : (length fs - low < 2) ⊎ ((low + 1 < length fs) × (get_or fs (low + 1) 0 ≡ sought → ⊥)) → Narrowed apex (labels n) (map set_of xs) low (min (length fs) (low + 1))
-    narrowed_one (inl short) = by_fronts (min (length fs) (low + 1)) (omega arith) (omega arith) (λ i l k. absurd (omega arith))
-    narrowed_one (inr other) = by_fronts (min (length fs) (low + 1)) (omega arith) (omega arith) higher
+    -- up to where another front is or there is none
+    pub narrowed_to : (high : ℕ) → low ≤ high → high ≤ length fs → Another fs high sought → Narrowed apex (labels n) (map set_of xs) low high
+    narrowed_to high u v (inl end) = by_fronts high u v (λ i l k. absurd (omega arith))
+    narrowed_to high u v (inr other) = by_fronts high u v higher
       where
-        higher : (i : ℕ) → min (length fs) (low + 1) ≤ i → i < length fs → sought < get_or fs i 0
+        higher : (i : ℕ) → high ≤ i → i < length fs → sought < get_or fs i 0
         higher i l k =
             let a = other.0 in
-            let g = from_low (low + 1) 0 (omega arith) a in
-            let h = fronts_rise (low + 1) i 0 (omega arith) k in
-            ⊎_elim (λ (lt : sought < get_or fs (low + 1) 0). omega arith) (λ (ge : get_or fs (low + 1) 0 ≤ sought). absurd (other.1 (omega arith))) (cases_lt sought (get_or fs (low + 1) 0))
+            let g = from_low high 0 u a in
+            let h = fronts_rise high i 0 l k in
+            ⊎_elim (λ (lt : sought < get_or fs high 0). omega arith) (λ (ge : get_or fs high 0 ≤ sought). absurd (other.1 (omega arith))) (cases_lt sought (get_or fs high 0))
 
 -- ---- the place among those that are left
 

@@ -43,7 +43,9 @@ impl SortedSets {
         let Some(last) = self.sets.last() else {
             return 0;
         };
-        if is_before(last, set.name(), set.kind(), self.apex.label_count()) {
+        if *last_front == front
+            && is_before(last, set.name(), set.kind(), self.apex.label_count())
+        {
             return self.sets.len();
         }
         self.position(set.name(), set.kind())

@@ -37,9 +37,13 @@ impl SortedSets {
         let sought = name.front_below(self.apex.label_count());
         let fronts = self.fronts.as_slice();
         let low = fronts.partition_point(|front| *front < sought);
+        // Where the front there is another, no set stands at the name, and none of their labels has to be read.
+        if fronts.get(low) != Some(&sought) {
+            return low..low;
+        }
         // Most fronts stand alone, so a look at the next one saves a second search.
-        if fronts.len() - low < 2 || fronts[low + 1] != sought {
-            return low..fronts.len().min(low + 1);
+        if fronts.get(low + 1) != Some(&sought) {
+            return low..low + 1;
         }
         let alike = fronts[low..].partition_point(|front| *front == sought);
         low..low + alike
