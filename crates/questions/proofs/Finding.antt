@@ -1,6 +1,7 @@
 -- The first element of a list that passes a test, where it stands, and those that pass: as a chain gives them, and as the machine says it.
-use Rattle.std.proofs.Common.{◌≡◌, ℕ, suc, ◌+◌, ◌<◌, Bool, true, false, cond, List, [], ◌∷◌, map, length, get_or, Some, None, Option, sym, refl, ap, ◌∙◌, subst, arith}
-use Rattle.std.specs.List.{find, filter, position, position_from}
+use Rattle.std.proofs.Common.{◌≡◌, ℕ, suc, ◌+◌, ◌<◌, ◌≤◌, Bool, true, false, cond, List, [], ◌∷◌, map, length, get_or, Some, None, Option, sym, refl, ap, ◌∙◌, subst, arith}
+use Rattle.std.specs.List.{find, filter, position, position_from, items_where_true}
+use Rattle.std.specs.List.Retain.{IsFiltered}
 use Rattle.std.specs.Option.{option_map}
 use Rattle.std.proofs.lemmas.Iterator.Adapters.{position_from-zero}
 use Rattle.std.proofs.lemmas.Bool.{cond-true, cond-false}
@@ -112,3 +113,17 @@ module _ {X Y : Type 0} (f : X → Y) (test : Y → Bool) where
       go : (b : Bool) → test (f x) ≡ b → map f (filter by_test xs) ≡ kept test (map f xs) → map f (cond (test (f x)) (x ∷ filter by_test xs) (filter by_test xs)) ≡ cond (test (f x)) (f x ∷ kept test (map f xs)) (kept test (map f xs))
       go true h ih = ap (λ b. map f (cond b (x ∷ filter by_test xs) (filter by_test xs))) h ∙ ap (λ ys. f x ∷ ys) ih ∙ sym (ap (λ b. cond b (f x ∷ kept test (map f xs)) (kept test (map f xs))) h)
       go false h ih = ap (λ b. map f (cond b (x ∷ filter by_test xs) (filter by_test xs))) h ∙ ih ∙ sym (ap (λ b. cond b (f x ∷ kept test (map f xs)) (kept test (map f xs))) h)
+
+-- ---- what a closure lets stay is no longer than the list was
+
+some_true : {X : Type 0} (bs : List Bool) (xs : List X) → length (items_where_true bs xs) ≤ length xs
+some_true [] xs = omega arith
+some_true (b ∷ bs) [] = omega arith
+some_true (true ∷ bs) (x ∷ xs) = let l = some_true bs xs in omega arith
+some_true (false ∷ bs) (x ∷ xs) = let l = some_true bs xs in omega arith
+
+pub filtered_few : {X P : Type 0} (R : P → X → Bool → P → Type 0) (p : P) (xs ys : List X) → IsFiltered R p xs ys → length ys ≤ length xs
+filtered_few R p xs ys h =
+    let e = ap length h.4 in
+    let l = some_true h.0 xs in
+    omega arith

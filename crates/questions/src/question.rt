@@ -1,4 +1,6 @@
 // A question under way: what was asked, and the tries for each word that it needed.
+ghost use Rattle.std.specs.Prelude.{◌≤◌, length};
+
 use crate::tried::Tried;
 use bounded::Bounded;
 use names::Name;
@@ -22,4 +24,6 @@ pub struct Request {
 pub struct Question {
     request: Request,
     tries: Bounded<Tried, MAX_WORDS>,
+    // The type of the tries holds to it; here a caller's proof can read it of any question.
+    ghost few: { length tries ≤ 24 },
 }

@@ -1,5 +1,5 @@
 // A resolver: what it remembers, which of its queries are pending, and which questions are under way.
-ghost use Rattle.std.specs.Prelude.{◌≤◌, vec_len};
+ghost use Rattle.std.specs.Prelude.{◌≤◌, length, vec_len};
 
 use bounded::Bounded;
 use cache::{Cache, Moment};
@@ -29,4 +29,6 @@ pub struct Resolver {
     cache: Cache,
     walks: Bounded<Question, MAX_WALKS>,
     ghost few: { vec_len roots ≤ 16 },
+    // The type of the walks holds to it; here a caller's proof can read it of any resolver.
+    ghost seats: { length walks ≤ 16 },
 }

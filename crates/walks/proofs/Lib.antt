@@ -1,3 +1,3 @@
 mod Courses
 mod Going
-mod Traced
+pub mod Traced

@@ -24,4 +24,4 @@ invariant_of-self c =
     let long = ap length es ∙ length-append self.entries (e ∷ []) in
     let fs = ap (map entry_of) es ∙ map_push entry_of self.entries e in
     let there = subst (λ h. hinted h (length (entries_of self)) (hints_of c.insert.new.self) ≡ true) c.hash.ensures (subst (λ k. hinted c.hash.result k (hints_of c.insert.new.self) ≡ true) c.len-place.ensures.value j.there) in
-    record { apart = ap one_a_key fs ∙ one_appended rules (entry_of e) (entries_of self) self.apart c.requires.0 c.requires.1; covered = subst (Covers (hints_of c.insert.new.self)) (sym fs) (covers_push (hints_of self.index) (hints_of c.insert.new.self) (entries_of self) (entry_of e) self.covered j.others there); even = omega arith }
+    record { few = omega arith; apart = ap one_a_key fs ∙ one_appended rules (entry_of e) (entries_of self) self.apart c.requires.0 c.requires.1; covered = subst (Covers (hints_of c.insert.new.self)) (sym fs) (covers_push (hints_of self.index) (hints_of c.insert.new.self) (entries_of self) (entry_of e) self.covered j.others there); even = omega arith }

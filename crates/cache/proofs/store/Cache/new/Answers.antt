@@ -10,4 +10,4 @@ invariant_of-result c =
     let l = ap length c.in_ok-index.ensures in
     let k = ap (λ xs. length (map entry_of xs)) m in
     let z = ap length m in
-    record { apart = ap (λ xs. one_a_key (map entry_of xs)) m; covered = λ i g. absurd (omega arith); even = omega arith }
+    record { few = omega arith; apart = ap (λ xs. one_a_key (map entry_of xs)) m; covered = λ i g. absurd (omega arith); even = omega arith }

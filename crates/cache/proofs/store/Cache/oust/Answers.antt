@@ -22,7 +22,9 @@ invariant_of-self c =
     let fs = written_as entry_of self.entries c.as_mut_slice.result.now c.args.place e c.as_mut_slice.ensures.value in
     let same : length (hints_of c.insert.new.self) ≡ length self.entries = omega arith in
     let there = subst (λ h. hinted h c.args.place (hints_of c.insert.new.self) ≡ true) c.hash.ensures j.there in
-    record { apart = ap one_a_key fs ∙ one_ousted rules (entry_of e) (entries_of self) self.apart c.requires.0 c.args.place c.requires.1; covered = subst (Covers (hints_of c.insert.new.self)) (sym fs) (covers_set (hints_of self.index) (hints_of c.insert.new.self) (entries_of self) (entry_of e) self.covered c.args.place (λ h i a b. j.others h i (k.others h i a b)) there); even = same ∙ sym (ap length es ∙ length-set self.entries c.args.place e) }
+    let long = ap length es ∙ length-set self.entries c.args.place e in
+    let f = self.few in
+    record { few = omega arith; apart = ap one_a_key fs ∙ one_ousted rules (entry_of e) (entries_of self) self.apart c.requires.0 c.args.place c.requires.1; covered = subst (Covers (hints_of c.insert.new.self)) (sym fs) (covers_set (hints_of self.index) (hints_of c.insert.new.self) (entries_of self) (entry_of e) self.covered c.args.place (λ h i a b. j.others h i (k.others h i a b)) there); even = same ∙ sym long }
 
 pub remove-requires : goal.remove-requires
 remove-requires c =

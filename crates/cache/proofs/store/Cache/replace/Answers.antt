@@ -31,7 +31,9 @@ invariant_of-self c =
     let e = c.args.entry in
     let es = written_one self.entries c.as_mut_slice.result.now c.args.place e c.as_mut_slice.ensures.value in
     let fs = written_as entry_of self.entries c.as_mut_slice.result.now c.args.place e c.as_mut_slice.ensures.value in
-    record { apart = ap one_a_key fs ∙ one_replaced times (entry_of e) (entries_of self) self.apart c.args.place c.requires; covered = subst (Covers (hints_of self.index)) (sym fs) (covers_replaced (hints_of self.index) (entries_of self) (entry_of e) c.args.place self.covered self.apart c.requires); even = self.even ∙ sym (ap length es ∙ length-set self.entries c.args.place e) }
+    let long = ap length es ∙ length-set self.entries c.args.place e in
+    let f = self.few in
+    record { few = omega arith; apart = ap one_a_key fs ∙ one_replaced times (entry_of e) (entries_of self) self.apart c.args.place c.requires; covered = subst (Covers (hints_of self.index)) (sym fs) (covers_replaced (hints_of self.index) (entries_of self) (entry_of e) c.args.place self.covered self.apart c.requires); even = self.even ∙ sym long }
 
 pub returns : goal.returns
 returns c = written_as entry_of c.args.self.now.entries c.as_mut_slice.result.now c.args.place c.args.entry c.as_mut_slice.ensures.value

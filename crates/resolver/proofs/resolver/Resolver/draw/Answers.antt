@@ -47,4 +47,4 @@ returns-clause-done c =
     )
 
 pub returns-clause-runs : goal.returns-clause-runs
-returns-clause-runs c = drawn_goes c.args.self.now (record { moment = c.count_tries.new.self.moment; roots = c.count_tries.new.self.roots; pending = c.add.new.self; cache = c.count_tries.new.self.cache; walks = c.count_tries.new.self.walks; few = c.count_tries.new.self.few }) c.args.id.0 (Ok (Some c.query_for-pending.result.query)) c.count_tries.ensures.roots (returns-clause-done c)
+returns-clause-runs c = drawn_goes c.args.self.now (record { moment = c.count_tries.new.self.moment; roots = c.count_tries.new.self.roots; pending = c.add.new.self; cache = c.count_tries.new.self.cache; walks = c.count_tries.new.self.walks; few = c.count_tries.new.self.few; seats = c.count_tries.new.self.seats }) c.args.id.0 (Ok (Some c.query_for-pending.result.query)) c.count_tries.ensures.roots (returns-clause-done c)
