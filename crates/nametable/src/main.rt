@@ -72,7 +72,11 @@ fn print_below(rt: &HostRuntime, apex: &[u8], text: &[u8]) -> io::Result<()> {
 }
 
 fn print_order(rt: &HostRuntime, a: &[u8], b: &[u8]) -> io::Result<()> {
-    let (Ok(a), Ok(b)) = (Name::read_whole(a), Name::read_whole(b)) else {
+    // The second is read only where the first is a name.
+    let Ok(a) = Name::read_whole(a) else {
+        return println!(rt; "no name");
+    };
+    let Ok(b) = Name::read_whole(b) else {
         return println!(rt; "no name");
     };
     let order = match a.cmp(&b) {
