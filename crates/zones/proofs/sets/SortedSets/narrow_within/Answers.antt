@@ -1,8 +1,10 @@
-use Rattle.std.proofs.Common.{◌+◌, eqb, ltb, ap, ◌∙◌, vec_items, rules, of_calls, arith}
+use Rattle.std.proofs.Common.{◌+◌, eqb, ltb, ap, ◌∙◌, subst, vec_items, rules, of_calls, arith}
 use Rattle.std.proofs.lemmas.Fn.{always_returns_same}
 use Rattle.std.proofs.lemmas.List.Sorted.{IsPartitionedBy-ltb}
 use Rattle.names.specs.Fronts.{front_below}
 use Rattle.names.specs.Names.{labels}
+use Rattle.zones.specs.Sorted.{Narrowed}
+use Rattle.zones.specs.Zones.{sets_of}
 use Rattle.zones.proofs.Narrow.{fronts_rise, alike_part, narrowed, narrowed_to, another_by, there_by}
 use Rattle.zones.proofs.sets.SortedSets.narrow_within.Goals as goal
 
@@ -30,8 +32,9 @@ returns-then-ne-2 c =
     let p = c.partition_point-low.ensures.partitioned (λ y. ltb y c.front_below-sought.result) (always_returns_same _ _ _ (λ x r f k. search (rules, of_calls)))
     (IsPartitionedBy-ltb (λ y. y) fs c.front_below-sought.result (fronts_rise a (vec_items s.sets) fs s.ordered s.inside m)) in
     let l = there_by (λ x. x.now) fs low c.get.result _ c.get.ensures.lookup c.if-ne.ensures in
-    narrowed_to a (vec_items s.sets) fs s.ordered s.inside m c.args.name.now c.requires c.front_below-sought.result h low c.partition_point-low.ensures.bound p (low + 1) (omega arith) (omega arith)
-    (another_by (λ x. x.now) fs (low + 1) c.get-2.result _ c.get-2.ensures.lookup c.if-ne-2.ensures)
+    subst (Narrowed a (labels c.args.name.now) (sets_of s) low) (omega arith)
+    (narrowed_to a (vec_items s.sets) fs s.ordered s.inside m c.args.name.now c.requires c.front_below-sought.result h low c.partition_point-low.ensures.bound p (low + 1) (omega arith) (omega arith)
+    (another_by (λ x. x.now) fs (low + 1) c.get-2.result _ c.get-2.ensures.lookup c.if-ne-2.ensures))
 
 pub returns : goal.returns
 returns c =
