@@ -16,7 +16,7 @@ use Rattle.names.proofs.Order.{order_flip, order_below, order_laws}
 use Rattle.meaning.specs.Model.{AliasOf, Set}
 use Rattle.records.specs.declared.set.RecordSet.{RecordSet}
 use Rattle.records.specs.Sets.{set_of}
-use Rattle.zones.specs.Sorted.{is_before, is_before_below, sorted, place, leading, all_within, fronts_of, Narrowed}
+use Rattle.zones.specs.Sorted.{is_before, is_before_below, sorted, place, leading, all_within, fronts_of, Alike, Narrowed}
 use Rattle.zones.proofs.Places.{mem_at, leading_is, place_leading, sets_fall, fronts_many}
 use Rattle.zones.proofs.ByPlace.{names_rise, all_before}
 use Rattle.zones.proofs.Topmost.{each_so}
@@ -87,9 +87,13 @@ pub another_by : {R : Type 0} (now : R → ℕ) (fs : List ℕ) (i : ℕ) (r : O
 another_by now fs i None s h e = inl h.3
 another_by now fs i (Some x) s h e = inr (h.3.0, λ f. absurd (true≢false (e ∙ ap not (eq-eqb (now x) (now s) (h.1 ∙ get_or_default fs i (now x) 0 h.3.0 ∙ f)))))
 
-pub there_by : {R : Type 0} (now : R → ℕ) (fs : List ℕ) (i : ℕ) (r : Option R) (s : R) → ItemBy now fs i i r → false ≡ not (option_eq (λ x y. eqb (now x) (now y)) r (Some s)) → i < length fs
+pub there_by : {R : Type 0} (now : R → ℕ) (fs : List ℕ) (i : ℕ) (r : Option R) (s : R) → ItemBy now fs i i r → false ≡ not (option_eq (λ x y. eqb (now x) (now y)) r (Some s)) → (i < length fs) × (get_or fs i 0 ≡ now s)
 there_by now fs i None s h e = absurd (true≢false (sym e))
-there_by now fs i (Some x) s h e = h.3.0
+there_by now fs i (Some x) s h e = (h.3.0, sym (h.1 ∙ get_or_default fs i (now x) 0 h.3.0) ∙ eqb-true (now x) (now s) (go (eqb (now x) (now s)) e))
+  where
+    go : (b : Bool) → false ≡ not b → b ≡ true
+    go true f = refl
+    go false f = absurd (true≢false (sym f))
 
 module _ (apex : List (List ℕ)) (xs : List RecordSet) (fs : List ℕ) (o : sorted (map set_of xs) ≡ true) (inside : all_within apex (map set_of xs) ≡ true) (m : fs ≡ fronts_of (length apex) (map set_of xs)) where
   many : length fs ≡ length xs
@@ -207,6 +211,12 @@ module _ (apex : List (List ℕ)) (xs : List RecordSet) (fs : List ℕ) (o : sor
             ⊎_elim (λ lt. lt)
             (λ (ge : get_or fs i 0 ≤ sought). absurd (true≢false (sym (eq-eqb (get_or rest (i - low) 0) sought (omega arith)) ∙ q.1 (i - low) 0 (omega arith) (omega arith))))
             (cases_lt sought (get_or fs i 0))
+
+    pub alike_all : (alike : ℕ) → alike ≤ length rest → IsPartitionPoint (λ y. eqb y sought ≡ true) (λ y. eqb y sought ≡ false) rest alike → Alike sought fs low (low + alike)
+    alike_all alike few q i l k =
+        let r = rest_len in
+        let j : low + (i - low) ≡ i = omega arith in
+        sym (rest_at (i - low) 0 (omega arith) ∙ ap (λ y. get_or fs y 0) j) ∙ eqb-true (get_or rest (i - low) 0) sought (q.0 (i - low) 0 (omega arith) (omega arith))
 
     -- up to where another front is or there is none
     pub narrowed_to : (high : ℕ) → low ≤ high → high ≤ length fs → Another fs high sought → Narrowed apex (labels n) (map set_of xs) low high

@@ -52,6 +52,10 @@ fronts_of depth = map (λ s. front_below depth s.name)
 abbrev pub is_before_below : ℕ → List (List ℕ) → ℕ → Set → Bool
 is_before_below depth n k s = is_lt (ordering_then (order (drop depth s.name) (drop depth n)) (nat_cmp s.kind k))
 
+-- from low to high the fronts are one number
+abbrev pub Alike : ℕ → List ℕ → ℕ → ℕ → Type 0
+Alike sought fronts low high = (i : ℕ) → low ≤ i → i < high → slice_index_or fronts i 0 ≡ sought
+
 -- only from low to high could sets stand at a name: those before have names before it, those from high on behind it; where
 -- there are any, the name is within the apex
 pub record Narrowed (apex n : List (List ℕ)) (ss : List Set) (low high : ℕ) : Type 0 where

@@ -1,11 +1,12 @@
 // Searches of sorted sets: each halves, and finds what a look through all of them would find, of names outside the apex too.
 ghost use Rattle.std.specs.Prelude.{◌≡◌, ◌≤◌, true, length};
 ghost use Rattle.std.specs.Option.{option_map};
+ghost use Rattle.names.specs.Fronts.{front_below};
 ghost use Rattle.names.specs.Names.{labels};
 ghost use Rattle.names.specs.Order.{within};
 ghost use Rattle.meaning.specs.Says.{is_exactly, find, any_under};
 ghost use Rattle.records.specs.Sets.{set_of};
-ghost use Rattle.zones.specs.Sorted.{is_before_below, place, Narrowed};
+ghost use Rattle.zones.specs.Sorted.{is_before_below, place, Alike, Narrowed};
 ghost use Rattle.zones.specs.Zones.{sets_of};
 
 use super::SortedSets;
@@ -32,7 +33,8 @@ impl SortedSets {
     // names behind it. Only between the two, where the fronts are mostly the same, do labels have to be compared.
     pub fn narrow_within(&self, name: &Name) -> Range<usize>
         requires { within (labels self.now.apex) (labels name.now) ≡ true }
-        ensures { Narrowed (labels self.now.apex) (labels name.now) (sets_of self.now) result.start result.end }
+        ensures narrowed { Narrowed (labels self.now.apex) (labels name.now) (sets_of self.now) result.start result.end }
+        ensures alike { Alike (front_below (length (labels self.now.apex)) (labels name.now)) self.now.fronts.items result.start result.end }
     {
         let sought = name.front_below(self.apex.label_count());
         let fronts = self.fronts.as_slice();
