@@ -1,4 +1,4 @@
-use Rattle.std.proofs.Common.{not, leb, is_some, ap, ◌∙◌, sym}
+use Rattle.std.proofs.Common.{is_some, ap, ◌∙◌, rules, tests}
 use lib.ListN.{length-map}
 use Rattle.names.specs.Names.{labels}
 use Rattle.questions.specs.Tries.{tried_for, tries_of}
@@ -14,4 +14,5 @@ pub returns-else-is_some : goal.returns-else-is_some
 returns-else-is_some c =
     let key = c.args.key.now in
     let ts = tries_of c.args.self.now in
-    ap not (c.is_full.ensures ∙ ap (leb 24) (sym (length-map c.args.self.now.tries tried_for)) ∙ sym (unknown (labels key.apex) (labels key.name) ts (c.if-is_some.ensures ∙ ap is_some c.find.ensures)))
+    let u = unknown (labels key.apex) (labels key.name) ts (c.if-is_some.ensures ∙ ap is_some c.find.ensures) in
+    search (rules, tests, u, length-map c.args.self.now.tries tried_for)
