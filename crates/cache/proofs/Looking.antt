@@ -1,6 +1,7 @@
 -- Looking through the hints of a hash finds what a look through all entries finds.
 use Rattle.std.proofs.Common.{◌≡◌, ℕ, zero, suc, ◌+◌, ◌<◌, ◌≤◌, Bool, true, false, cond, eqb, leb, ◌⊎◌, List, [], ◌∷◌, map, length, get_or, take, drop, Some, None, Option, sym, refl, ap, ◌∙◌, subst, inl, inr, true≢false, arith}
 use Rattle.std.specs.List.{slice_get, filter, find, take_while, prefix_len}
+use Rattle.std.specs.Option.{option_map}
 use Rattle.std.proofs.lemmas.Option.{slice_get-get_or, slice_get_past}
 use Rattle.std.proofs.lemmas.Bool.{cond-true, cond-false, and_parts, eqb-true, eq-eqb, ne_eqb, le-leb, lt-leb, cases_lt, cases_order, cases_Bool, or_cases}
 use Rattle.protocol.specs.Lists.{any}
@@ -108,6 +109,15 @@ module _ (h : ℕ) where
         go (inl a) (inr b) (inr c) ih = ih (sym (cond-false (test x.place) (Some x.place) (find test (places xs)) b) ∙ with_head a) j c
         go (inr a) b (inl c) ih = absurd (true≢false (sym (eq-eqb x.hash h (at c).0) ∙ a))
         go (inr a) b (inr c) ih = ih (sym (ap (λ ys. find test (map (λ (y : Hint). y.place) ys)) (cond-false (eqb x.hash h) (x ∷ filter has xs) (filter has xs) a)) ∙ e) j c
+
+-- the first hint whose place passes a test has the first place that does
+pub first_place : (test : ℕ → Bool) (xs : List Hint) → option_map (λ (x : Hint). x.place) (find (λ (x : Hint). test x.place) xs) ≡ find test (map (λ (x : Hint). x.place) xs)
+first_place test [] = refl
+first_place test (x ∷ xs) = go (test x.place) (first_place test xs)
+  where
+    go : (b : Bool) → option_map (λ (y : Hint). y.place) (find (λ (y : Hint). test y.place) xs) ≡ find test (map (λ (y : Hint). y.place) xs) → option_map (λ (y : Hint). y.place) (cond b (Some x) (find (λ (y : Hint). test y.place) xs)) ≡ cond b (Some x.place) (find test (map (λ (y : Hint). y.place) xs))
+    go true ih = refl
+    go false ih = ih
 
 -- ---- the entry at a place
 

@@ -1,5 +1,6 @@
 // Searching the index, which halves, and changing it.
-ghost use Rattle.std.specs.Prelude.{◌≡◌, ℕ, ◌+◌, ◌<◌, ◌≤◌, true, false, [], length, MatchOption, MatchResult, ◌≢◌, ◌==◌, filter};
+ghost use Rattle.std.specs.Prelude.{◌≡◌, ℕ, ◌+◌, ◌<◌, ◌≤◌, true, false, [], length, MatchOption, MatchResult, ◌≢◌, ◌==◌};
+ghost use Rattle.std.specs.List.{filter, take_while};
 ghost use Rattle.names.specs.declared.fault.Fault.TheVariants.{NoMemory};
 ghost use Rattle.machine.specs.Store.{max_entries};
 ghost use Rattle.cache.specs.Hints.{hash_at, place_on, hinted};
@@ -29,13 +30,12 @@ impl Index {
             .partition_point(|hint| hint.hash < hash)
     }
 
-    // The hints of a hash, which stand side by side.
-    pub fn of_hash(&self, hash: u64) -> &[Hint]
-        ensures { result.now ≡ filter (λ x. x.hash == hash) (hints_of self.now) }
+    // The hints of a hash, which stand side by side, and behind them those of higher hashes: who looks for one of the hash need
+    // not see them all.
+    pub fn from_hash(&self, hash: u64) -> &[Hint]
+        ensures { take_while (λ x. x.hash == hash) result.now ≡ filter (λ x. x.hash == hash) (hints_of self.now) }
     {
-        let hints = &self.hints.as_slice()[self.first(hash)..];
-        let count = hints.iter().take_while(|hint| hint.hash == hash).count();
-        &hints[..count]
+        &self.hints.as_slice()[self.first(hash)..]
     }
 
     // One hint more, where there is room.

@@ -52,8 +52,11 @@ impl Cache {
     pub fn find(&self, key: &Key) -> Option<usize>
         ensures { result ≡ place_of (is_key (labels key.now.apex) (labels key.now.name) key.now.kind.number) (entries_of self.now) }
     {
-        let mut places = self.index.of_hash(key.hash()).iter().map(|hint| hint.place);
-        places.find(|place| self.is_at(*place, key))
+        let hash = key.hash();
+        let hints = self.index.from_hash(hash).iter();
+        let mut alike = hints.take_while(|hint| hint.hash == hash);
+        let found = alike.find(|hint| self.is_at(hint.place, key));
+        found.map(|hint| hint.place)
     }
 
     // The entry of a key with its place, if it still counts.
