@@ -1,6 +1,8 @@
--- When one name lies within another: laws.
-use Rattle.std.proofs.Common.{◌≡◌, ℕ, nat_eq, ◌<◌, Bool, true, false, ◌&&◌, ◌⊎◌, List, [], ◌∷◌, ◌++◌, length, Decides, take, sym, refl, ap, ◌∙◌, inl, inr, ⊎_elim, true≢false, arith}
-use Rattle.std.specs.Cmp.Lexicographic.{pointwise, pointwise_decides, bytes_decides, nat_list_eq_equiv}
+-- When one name lies within another: laws, and the step of the loop that finds out.
+use Rattle.std.proofs.Common.{◌≡◌, ℕ, nat_eq, ◌+◌, ◌<◌, ◌≤◌, Bool, true, false, ◌&&◌, ◌⊎◌, List, [], ◌∷◌, ◌++◌, length, Decides, get_or, take, drop, sym, refl, ap, ◌∙◌, inl, inr, ⊎_elim, true≢false, arith}
+use Rattle.std.specs.Cmp.{nat_eq_equiv}
+use Rattle.std.specs.Cmp.Lexicographic.{pointwise, pointwise_decides, bytes_decides, lists_equiv, nat_list_eq_equiv}
+use Rattle.std.proofs.lemmas.List.{drop_more, drop_all}
 use Rattle.std.proofs.lemmas.Bool.{and_parts, and_from}
 use Rattle.names.specs.Order.{same_label, within, WithinLaws}
 
@@ -55,13 +57,6 @@ within_laws = record { front = within_front; extends = within_extends; transitiv
 
 -- ---- as it is found out
 
--- the upper name's labels, and as many of the other's
-pub within_taken : (q n : List (List ℕ)) → within q n ≡ pointwise same_label q (take (length q) n)
-unfolding within
-within_taken [] n = refl
-within_taken (l ∷ q) [] = refl
-within_taken (l ∷ q) (m ∷ n) = ap (λ b. same_label l m && b) (within_taken q n)
-
 -- no name lies within one with more labels
 pub within_longer : (q n : List (List ℕ)) → length n < length q → within q n ≡ false
 unfolding within
@@ -72,6 +67,29 @@ within_longer (l ∷ q) (m ∷ n) h = ap (λ b. same_label l m && b) (within_lon
     and_false : (b : Bool) → (b && false) ≡ false
     and_false true = refl
     and_false false = refl
+
+-- one label on: x and y are the labels there
+within_more : (q n : List (List ℕ)) (i : ℕ) → i < length q → i < length n → within (drop i q) (drop i n) ≡ (same_label (get_or q i []) (get_or n i []) && within (drop (i + 1) q) (drop (i + 1) n))
+unfolding within
+within_more q n i h k = λ j. within (drop_more q i [] h j) (drop_more n i [] k j)
+
+pub within_step : (q n : List (List ℕ)) (i : ℕ) (x y : List ℕ) (b : Bool) → i < length q → i < length n → x ≡ get_or n i [] → y ≡ get_or q i [] → b ≡ same_label x y → within (drop i q) (drop i n) ≡ (b && within (drop (i + 1) q) (drop (i + 1) n))
+within_step q n i x y b h k p r e =
+    within_more q n i h k ∙ ap (λ c. c && within (drop (i + 1) q) (drop (i + 1) n)) (sym (e ∙ turned x y ∙ (λ j. same_label (r j) (p j))))
+  where
+    turned : (x y : List ℕ) → same_label x y ≡ same_label y x
+    turned = (lists_equiv nat_eq_equiv).symm
+
+pub within_all : (q n : List (List ℕ)) (i : ℕ) → length q ≤ i → within (drop i q) (drop i n) ≡ true
+unfolding within
+within_all q n i h = ap (λ ls. within ls (drop i n)) (drop_all i q h)
+
+-- the upper name's labels, and as many of the other's
+pub within_taken : (q n : List (List ℕ)) → within q n ≡ pointwise same_label q (take (length q) n)
+unfolding within
+within_taken [] n = refl
+within_taken (l ∷ q) [] = refl
+within_taken (l ∷ q) (m ∷ n) = ap (λ b. same_label l m && b) (within_taken q n)
 
 -- names of one length, one within the other, are one name
 pub within_level : (q n : List (List ℕ)) → within q n ≡ true → length q ≡ length n → q ≡ n

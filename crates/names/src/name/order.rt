@@ -2,7 +2,7 @@
 ghost use Rattle.std.specs.Prelude.{◌≡◌, drop, nat_eq, Some, refl};
 ghost use Rattle.names.specs.Fronts.{front, front_below};
 ghost use Rattle.names.specs.Names.{labels};
-ghost use Rattle.names.specs.Order.{within, order, WithinLaws, OrderLaws};
+ghost use Rattle.names.specs.Order.{same_label, within, order, WithinLaws, OrderLaws};
 ghost use Rattle.names.specs.Comparing.{names_total, names_ties, names_partial};
 ghost use Rattle.std.specs.Cmp.{partial_equiv_from_equiv, on_equiv, on_po, on_total};
 ghost use Rattle.std.specs.Cmp.Lexicographic.{pointwise, lists_equiv, nat_list_eq_equiv};
@@ -10,6 +10,12 @@ ghost use Rattle.std.specs.Ordering.{on};
 
 use super::Name;
 use std::cmp::Ordering;
+
+fn same_label(a: &[u8], b: &[u8]) -> bool
+    ensures { result ≡ same_label a.now b.now }
+{
+    a == b
+}
 
 // The first eight bytes of a label as one number.
 fn front_of(label: &[u8]) -> u64
@@ -27,8 +33,16 @@ impl Name {
         ensures { result ≡ within (labels upper.now) (labels self.now) }
     {
         // The counts come first, here and in `==`: of two names that differ they tell most often, and no label is read.
-        let count = upper.label_count();
-        self.label_count() >= count && upper.labels().eq(self.labels().take(count))
+        if self.label_count() < upper.label_count() {
+            return false;
+        }
+        // By depths, and not by `eq` of their iterators: with 16 labels that takes 1.6 times as long.
+        for depth in 0..upper.label_count() {
+            if !same_label(self.label_at(depth), upper.label_at(depth)) {
+                return false;
+            }
+        }
+        true
     }
 
     // The order of two names by their labels from a depth on: all that is left to compare where those above are the same.
